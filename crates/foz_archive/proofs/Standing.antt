@@ -1,0 +1,27 @@
+-- Entries in a row, one after the other.
+use Rattle.std.proofs.Common.{◌≡◌, ℕ, ◌+◌, ◌<◌, List, [], ◌∷◌, ◌++◌, length, refl, subst, append_assoc, append-nil, length-append, arith}
+use Rattle.foz_entry.specs.declared.cut.Cut.{Cut}
+use Rattle.foz_entry.specs.declared.cut.Entry.{Entry}
+use Rattle.foz_entry.specs.Whole.{IsWhole}
+use Rattle.foz_archive.specs.Reading.{BeginsWithNone, Stand}
+
+-- what is read so far: whatever stands in a row from a place on stands there behind what was read
+abbrev pub GoesOn : ℕ → List ℕ → List Entry → ℕ → List ℕ → Type 0
+GoesOn from bytes before place rest = (entries : List Entry) (end : ℕ) → Stand place rest entries end → Stand from bytes (before ++ entries) end
+
+pub goes_on : (from : ℕ) (bytes : List ℕ) (before : List Entry) (place next : ℕ) (rest after : List ℕ) (entry : Entry) → GoesOn from bytes before place rest
+    → entry.offset ≡ place → IsWhole rest entry.head entry.payload after → next ≡ place + entry.head.total → GoesOn from bytes (before ++ entry ∷ []) next after
+goes_on from bytes before place next rest after entry so_far at whole step = λ entries end stand.
+    rw (append_assoc before (entry ∷ []) entries) (so_far (entry ∷ entries) end (at, (after, whole, rw (← step) stand)))
+
+-- nothing more stands there
+pub goes_on_none : (from : ℕ) (bytes : List ℕ) (before : List Entry) (place : ℕ) (rest : List ℕ) → GoesOn from bytes before place rest → BeginsWithNone rest → Stand from bytes before place
+goes_on_none from bytes before place rest so_far none = subst (λ (es : List Entry). Stand from bytes es place) (append-nil before) (so_far [] place (refl, none))
+
+-- more than so many stand there, where so many were read and one more stands at the front
+pub goes_on_more : (from : ℕ) (bytes : List ℕ) (before : List Entry) (place count end : ℕ) (rest : List ℕ) → GoesOn from bytes before place rest → length before ≡ count
+    → (head : Cut) (payload after : List ℕ) → IsWhole rest head payload after → (entries : List Entry) → Stand place rest entries end
+    → (all : List Entry) × Stand from bytes all end × (count < length all)
+goes_on_more from bytes before place count end rest so_far counted head payload after whole [] stand = absurd (stand.1 head payload after whole)
+goes_on_more from bytes before place count end rest so_far counted head payload after whole (entry ∷ entries) stand =
+    (before ++ entry ∷ entries, so_far (entry ∷ entries) end stand, omega (arith, length-append before (entry ∷ entries), counted))

@@ -1,0 +1,31 @@
+use foz_words::NoMemory;
+
+/// Why a file is no archive that is read, the first reason in this order.
+#[derive(Clone, Copy, Debug, PartialEq, Eq)]
+pub enum ArchiveError {
+    /// It doesn't begin with a header. Of a file with fewer than 16 bytes the missing ones are 0 here.
+    BadMagic { len: usize, bytes: [u8; 16] },
+    BadVersion { v: u8 },
+    /// It is longer than 268,435,457 bytes, or its entries end above 268,435,456.
+    TooLong { len: u64 },
+    /// More than 1,048,576 whole entries stand in a row.
+    TooMany,
+}
+
+/// Why bytes are not read.
+#[derive(Clone, Copy, Debug, PartialEq, Eq)]
+pub enum ScanError {
+    Archive(ArchiveError),
+    Memory,
+}
+
+impl From<NoMemory> for ScanError {
+    ghost use Rattle.std.specs.Prelude.{◌≡◌};
+    ghost use Rattle.foz_archive.specs.declared.refusal.ScanError.TheVariants.{Memory};
+
+    ghost from_gives = { λ _ error. error ≡ Memory };
+
+    fn from(_refused: NoMemory) -> ScanError {
+        ScanError::Memory
+    }
+}
