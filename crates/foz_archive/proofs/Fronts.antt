@@ -63,3 +63,11 @@ header_from file n is good = sym (take-take 16 16 file (omega arith)) ∙ ap (ta
 pub long_of_header : (file : List ℕ) → take 16 file ≡ header → 16 ≤ length file
 unfolding header magic
 long_of_header file is = omega (arith, ap length is, length-take 16 file)
+
+pub magic_of_header : (file : List ℕ) → take 16 file ≡ header → HasMagic file
+unfolding header magic
+magic_of_header file is = record { long = long_of_header file is; begins = sym (take-take 15 16 file (omega arith)) ∙ ap (take 15) is }
+
+pub six_of_header : (file : List ℕ) → take 16 file ≡ header → get_or file 15 0 ≡ 6
+unfolding header magic
+six_of_header file is = sym (get_or-take 16 file 15 0 (omega arith)) ∙ ap (λ (l : List ℕ). get_or l 15 0) is

@@ -1,5 +1,6 @@
 pub mod Rows
-pub mod Unique
 pub mod Standing
 pub mod FirstBytes
 pub mod Fronts
+pub mod Unique
+pub mod ReadOnly

@@ -1,8 +1,9 @@
 -- Entries in a row, one after the other.
-use Rattle.std.proofs.Common.{◌≡◌, ℕ, ◌+◌, ◌<◌, List, [], ◌∷◌, ◌++◌, length, refl, subst, append_assoc, append-nil, length-append, arith}
+use Rattle.std.proofs.Common.{◌≡◌, ℕ, ◌+◌, ◌<◌, ◌≤◌, List, [], ◌∷◌, ◌++◌, length, drop, refl, subst, append_assoc, append-nil, length-append, length-drop, arith}
 use Rattle.foz_entry.specs.declared.cut.Cut.{Cut}
 use Rattle.foz_entry.specs.declared.cut.Entry.{Entry}
 use Rattle.foz_entry.specs.Whole.{IsWhole}
+use Rattle.foz_entry.proofs.Heads.{length-whole}
 use Rattle.foz_archive.specs.Reading.{BeginsWithNone, Stand}
 
 -- what is read so far: whatever stands in a row from a place on stands there behind what was read
@@ -25,3 +26,14 @@ pub goes_on_more : (from : ℕ) (bytes : List ℕ) (before : List Entry) (place 
 goes_on_more from bytes before place count end rest so_far counted head payload after whole [] stand = absurd (stand.1 head payload after whole)
 goes_on_more from bytes before place count end rest so_far counted head payload after whole (entry ∷ entries) stand =
     (before ++ entry ∷ entries, so_far (entry ∷ entries) end stand, omega (arith, length-append before (entry ∷ entries), counted))
+
+-- entries in a row end within the bytes
+end_within : (place : ℕ) (bytes : List ℕ) (entries : List Entry) (end : ℕ) → Stand place bytes entries end → end ≤ place + length bytes
+end_within place bytes [] end stand = omega (arith, stand.0)
+end_within place bytes (e ∷ entries) end stand =
+    let rest = stand.1.0 in
+    omega (arith, length-whole bytes e.payload rest e.head stand.1.1, end_within (place + e.head.total) rest entries end stand.1.2)
+
+-- nothing that is read ends past the file
+pub ends_within : (file : List ℕ) (entries : List Entry) (end : ℕ) → 16 ≤ length file → Stand 16 (drop 16 file) entries end → end ≤ length file
+ends_within file entries end long stand = omega (arith, end_within 16 (drop 16 file) entries end stand, length-drop 16 file)

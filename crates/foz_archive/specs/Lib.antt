@@ -1,3 +1,4 @@
 pub mod Reading
 pub mod Refusal
 pub mod Found
+pub mod OnlyRead

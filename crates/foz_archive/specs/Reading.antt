@@ -1,5 +1,5 @@
 -- What stands in an archive.
-use Rattle.std.specs.Prelude.{◌≡◌, ◌≢◌, ◌⊎◌, ℕ, ◌+◌, ◌≤◌, List, [], ◌∷◌, ◌++◌, length, take, drop, codes}
+use Rattle.std.specs.Prelude.{◌≡◌, ◌≢◌, ◌⊎◌, ℕ, zero, suc, Bool, true, false, ◌+◌, ◌≤◌, List, [], ◌∷◌, ◌++◌, length, take, drop, codes}
 use Rattle.foz_entry.specs.declared.cut.Cut.{Cut}
 use Rattle.foz_entry.specs.declared.cut.Entry.{Entry}
 use Rattle.foz_entry.specs.Whole.{IsWhole}
@@ -47,10 +47,18 @@ pub record IsAccepted (file : List ℕ) (entries : List Entry) (end : ℕ) : Typ
   pub near : end ≤ end_limit
   pub few : length entries ≤ count_limit
 
+-- nothing stands behind the entries, or the byte 0 that closes a file
+abbrev pub is_clean : List ℕ → Bool
+is_clean [] = true
+is_clean (zero ∷ []) = true
+is_clean (suc byte ∷ []) = false
+is_clean (first ∷ second ∷ rest) = false
+
 -- what is read of a file
 pub record IsReading (file : List ℕ) (scanned : Scanned) : Type 0 where
   pub accepted : IsAccepted file scanned.entries scanned.end
   pub length : scanned.length ≡ length file
+  pub clean : scanned.clean ≡ is_clean (drop scanned.end file)
 
 -- a file whose header never came to stand, so that nothing can be in it
 abbrev pub IsNew : List ℕ → Type 0
@@ -59,3 +67,9 @@ IsNew file = (length file ≤ 17) × (take 16 file ≢ header)
 -- what a file holds: new files hold nothing, and files that are refused hold no list at all
 abbrev pub Holds : List ℕ → List Entry → Type 0
 Holds file entries = (IsNew file × (entries ≡ [])) ⊎ ((end : ℕ) × IsAccepted file entries end)
+
+-- what holds of each reading, whatever the file
+pub record IsBounded (scanned : Scanned) : Type 0 where
+  pub near : scanned.end ≤ end_limit
+  pub few : length scanned.entries ≤ count_limit
+  pub within : scanned.end ≤ scanned.length

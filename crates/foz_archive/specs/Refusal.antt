@@ -5,6 +5,8 @@ use Rattle.foz_archive.specs.declared.refusal.ArchiveError.{ArchiveError}
 use Rattle.foz_archive.specs.declared.refusal.ArchiveError.TheVariants.{BadMagic, BadVersion, TooLong, TooMany}
 use Rattle.foz_archive.specs.declared.refusal.ScanError.{ScanError}
 use Rattle.foz_archive.specs.declared.refusal.ScanError.TheVariants as scan_errors
+use Rattle.foz_archive.specs.declared.refusal.ReadError.{ReadError}
+use Rattle.foz_archive.specs.declared.refusal.ReadError.TheVariants as read_errors
 use Rattle.foz_archive.specs.Reading.{magic, header, end_limit, count_limit, Stand}
 
 -- the first sixteen bytes, with zeros for those that are missing
@@ -56,3 +58,13 @@ IsRefusedBy file TooMany = HasTooMany file
 abbrev pub IsUnread : List ℕ → ScanError → Type 0
 IsUnread file (scan_errors.Archive error) = IsRefusedBy file error
 IsUnread file scan_errors.Memory = Unit {0}
+
+-- the disk with this content is refused for this reason, or it failed, or there was no memory to read it
+abbrev pub IsUnreadDisk : List ℕ → ReadError → Type 0
+IsUnreadDisk content read_errors.DiskFault = Unit {0}
+IsUnreadDisk content (read_errors.Archive error) = IsRefusedBy content error
+IsUnreadDisk content read_errors.Memory = Unit {0}
+
+abbrev pub read_error_of : ScanError → ReadError
+read_error_of (scan_errors.Archive error) = read_errors.Archive error
+read_error_of scan_errors.Memory = read_errors.Memory

@@ -2,8 +2,12 @@
 #![tactic(auto)]
 
 mod header;
+mod laws;
+mod read;
 mod refusal;
 mod scanned;
 
-pub use refusal::{ArchiveError, ScanError};
+pub use laws::readings_are_unique;
+pub use read::read_disk;
+pub use refusal::{ArchiveError, ReadError, ScanError};
 pub use scanned::{Scanned, scan};

@@ -1,4 +1,6 @@
+use disk_model::Failed;
 use foz_words::NoMemory;
+use std::alloc::AllocError;
 
 /// Why a file is no archive that is read, the first reason in this order.
 #[derive(Clone, Copy, Debug, PartialEq, Eq)]
@@ -27,5 +29,49 @@ impl From<NoMemory> for ScanError {
 
     fn from(_refused: NoMemory) -> ScanError {
         ScanError::Memory
+    }
+}
+
+/// Why a disk is not read.
+#[derive(Clone, Copy, Debug, PartialEq, Eq)]
+pub enum ReadError {
+    DiskFault,
+    Archive(ArchiveError),
+    Memory,
+}
+
+impl From<Failed> for ReadError {
+    ghost use Rattle.std.specs.Prelude.{◌≡◌};
+    ghost use Rattle.foz_archive.specs.declared.refusal.ReadError.TheVariants.{DiskFault};
+
+    ghost from_gives = { λ _ error. error ≡ DiskFault };
+
+    fn from(_failed: Failed) -> ReadError {
+        ReadError::DiskFault
+    }
+}
+
+impl From<AllocError> for ReadError {
+    ghost use Rattle.std.specs.Prelude.{◌≡◌};
+    ghost use Rattle.foz_archive.specs.declared.refusal.ReadError.TheVariants.{Memory};
+
+    ghost from_gives = { λ _ error. error ≡ Memory };
+
+    fn from(_refused: AllocError) -> ReadError {
+        ReadError::Memory
+    }
+}
+
+impl From<ScanError> for ReadError {
+    ghost use Rattle.std.specs.Prelude.{◌≡◌};
+    ghost use Rattle.foz_archive.specs.Refusal.{read_error_of};
+
+    ghost from_gives = { λ unread error. error ≡ read_error_of unread };
+
+    fn from(unread: ScanError) -> ReadError {
+        match unread {
+            ScanError::Archive(error) => ReadError::Archive(error),
+            ScanError::Memory => ReadError::Memory,
+        }
     }
 }

@@ -2,7 +2,7 @@
 ghost use Rattle.std.specs.Prelude.{◌≡◌, ◌+◌, ◌≤◌, ◌<◌, ◌^◌, ℕ, List, length, drop, IfOk, IfErr};
 ghost use Rattle.foz_entry.specs.declared.cut.Entry.{Entry};
 ghost use Rattle.foz_archive.specs.declared.scanned.Scanned.{Scanned};
-ghost use Rattle.foz_archive.specs.Reading.{Stand, IsReading};
+ghost use Rattle.foz_archive.specs.Reading.{Stand, is_clean, IsReading, IsBounded};
 ghost use Rattle.foz_archive.specs.Refusal.{IsUnread};
 ghost use Rattle.foz_archive.specs.Found.{IsFound};
 
@@ -20,19 +20,27 @@ pub(crate) const END_LIMIT: usize = 268_435_456;
 /// The most entries of an archive.
 pub(crate) const COUNT_LIMIT: usize = 1_048_576;
 
-/// What stands in a file: its whole entries in a row, where they end, and how long the file is, in bytes.
+/// What stands in a file: its whole entries in a row, where they end and how long the file is, in bytes, and whether
+/// nothing stands behind them but maybe the byte 0 that closes a file.
 #[derive(Debug, Drop)]
 pub struct Scanned {
     pub entries: Row<Entry>,
     pub end: u64,
     pub length: u64,
+    pub clean: bool,
 }
 
 /// Where the entries of a row end, and the entries themselves unless there are too many.
 #[derive(Drop)]
 enum Found {
-    Few { entries: Row<Entry>, end: usize },
-    TooMany { end: usize },
+    Few {
+        entries: Row<Entry>,
+        end: usize,
+        clean: bool,
+    },
+    TooMany {
+        end: usize,
+    },
 }
 
 /// Where the whole entries end that stand in a row from a place on.
@@ -50,11 +58,18 @@ fn end_of_row(bytes: &[u8], from: usize) -> usize
     place
 }
 
+/// Is what stands behind the entries nothing, or the byte that closes a file?
+fn is_clean(rest: &[u8]) -> bool
+    ensures { result ≡ is_clean rest.now }
+{
+    matches!(rest, [] | [0])
+}
+
 /// The whole entries in a row behind the header. Their payloads are copied here, once.
 fn entries_of(alloc: Global, bytes: &[u8]) -> Result<Found, NoMemory>
     requires long { 16 ≤ length bytes.now }
     requires short { length bytes.now < 2 ^ 62 }
-    ensures { IfOk result (λ found. IsFound (drop 16 bytes.now) found) }
+    ensures { IfOk result (λ found. IsFound bytes.now found) }
 {
     let mut entries = Row::new(alloc);
     let mut place = HEADER_LEN;
@@ -78,12 +93,14 @@ fn entries_of(alloc: Global, bytes: &[u8]) -> Result<Found, NoMemory>
     Ok(Found::Few {
         entries,
         end: place,
+        clean: is_clean(rest),
     })
 }
 
 /// What stands in a file with these bytes. A file has at most one reading or one reason why it is refused.
 pub fn scan(alloc: Global, bytes: &[u8]) -> Result<Scanned, ScanError>
     ensures read { IfOk result (λ scanned. IsReading bytes.now scanned) }
+    ensures bounded { IfOk result IsBounded }
     ensures unread { IfErr result (λ error. IsUnread bytes.now error) }
 {
     let front = &bytes[..bytes.len().min(HEADER_LEN)];
@@ -96,7 +113,11 @@ pub fn scan(alloc: Global, bytes: &[u8]) -> Result<Scanned, ScanError>
         return Err(too_long);
     }
     match entries_of(alloc, bytes)? {
-        Found::Few { entries, end } => {
+        Found::Few {
+            entries,
+            end,
+            clean,
+        } => {
             if end > END_LIMIT {
                 return Err(too_long);
             }
@@ -104,6 +125,7 @@ pub fn scan(alloc: Global, bytes: &[u8]) -> Result<Scanned, ScanError>
                 entries,
                 end: end as u64,
                 length,
+                clean,
             })
         }
         Found::TooMany { end } => {

@@ -1,8 +1,8 @@
-use Rattle.std.proofs.Common.{◌≡◌, ◌∙◌, ◌+◌, ◌∷◌, [], take, drop, refl, arith, length-append}
-use Rattle.std.proofs.lemmas.List.{drop-take}
+use Rattle.std.proofs.Common.{◌≡◌, ◌∙◌, ◌+◌, ◌∷◌, [], take, drop, refl, ap, arith, length-append}
+use Rattle.std.proofs.lemmas.List.{drop-take, drop-drop}
 use Rattle.foz_entry.specs.declared.cut.Entry.{Entry}
 use Rattle.foz_entry.proofs.Heads.{length-whole}
-use Rattle.foz_archive.specs.Reading.{count_limit}
+use Rattle.foz_archive.specs.Reading.{count_limit, is_clean}
 use Rattle.foz_archive.proofs.Standing.{goes_on, goes_on_none, goes_on_more}
 use Rattle.foz_archive.proofs.scanned.entries_of.Goals as goal
 
@@ -26,8 +26,9 @@ loop-head-preserved c =
     record {
       stand = rw c.in_ok-push.ensures.ok (goes_on 16 (drop 16 c.args.bytes.now) c.loop-head.entries c.loop-head.place (c.loop-head.place + head.total) rest c.split_at.result.1.now entry c.loop-head.invariant.stand refl next refl);
       placed = omega (arith, c.split_at.ensures.back_len);
+      rest = c.split_at.ensures.back ∙ ap (drop head.total) c.loop-head.invariant.rest ∙ drop-drop head.total c.loop-head.place c.args.bytes.now;
       few = rw c.in_ok-push.ensures.ok (omega (arith, length-append c.loop-head.entries (entry ∷ []), c.len.ensures));
     }
 
 pub returns : goal.returns
-returns c = (goes_on_none 16 (drop 16 c.args.bytes.now) c.loop-head.entries c.loop-head.place c.loop-head.rest.now c.loop-head.invariant.stand c.in_default.ensures.none, c.loop-head.invariant.few)
+returns c = (goes_on_none 16 (drop 16 c.args.bytes.now) c.loop-head.entries c.loop-head.place c.loop-head.rest.now c.loop-head.invariant.stand c.in_default.ensures.none, c.loop-head.invariant.few, c.is_clean.ensures ∙ ap is_clean c.loop-head.invariant.rest)

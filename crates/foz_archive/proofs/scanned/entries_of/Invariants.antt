@@ -7,6 +7,7 @@ abbrev pub invariant-loop-head : goal.invariant-loop-head
 invariant-loop-head l = record {
   stand : GoesOn 16 (drop 16 l.bytes) l.entries l.place l.rest;
   placed : l.place + length l.rest ≡ length l.bytes;
+  rest : l.rest ≡ drop l.place l.bytes;
   few : length l.entries ≤ count_limit;
 }
 

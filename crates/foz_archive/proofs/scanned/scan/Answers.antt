@@ -1,5 +1,6 @@
 use Rattle.std.proofs.Common.{drop, refl, subst, arith, inr}
 use Rattle.foz_archive.specs.Found.{IsFound}
+use Rattle.foz_archive.proofs.Standing.{ends_within}
 use Rattle.foz_archive.proofs.Fronts.{front_of, header_from, long_of_header}
 use Rattle.foz_archive.proofs.scanned.scan.Goals as goal
 
@@ -11,22 +12,22 @@ entries_of-requires-clause-long c = long_of_header c.args.bytes.now (header_from
 
 pub returns-then-end-gt-END_LIMIT-clause-unread : goal.returns-then-end-gt-END_LIMIT-clause-unread
 returns-then-end-gt-END_LIMIT-clause-unread c =
-    let found = subst (IsFound (drop 16 c.args.bytes.now)) c.in-Few.is c.in_ok-entries.ensures in
+    let found = subst (IsFound c.args.bytes.now) c.in-Few.is c.in_ok-entries.ensures in
     record { begins = header_from c.args.bytes.now _ c.min.ensures c.in_default.ensures.good; len_is = refl; long = inr (record { entries = c.in-Few.entries; end = c.in-Few.end; stand = found.0 }, omega arith) }
 
 pub returns-then-end-gt-END_LIMIT-2-clause-unread : goal.returns-then-end-gt-END_LIMIT-2-clause-unread
 returns-then-end-gt-END_LIMIT-2-clause-unread c =
-    let found = subst (IsFound (drop 16 c.args.bytes.now)) c.in-TooMany.is c.in_ok-entries.ensures in
+    let found = subst (IsFound c.args.bytes.now) c.in-TooMany.is c.in_ok-entries.ensures in
     record { begins = header_from c.args.bytes.now _ c.min.ensures c.in_default.ensures.good; len_is = refl; long = inr (record { entries = found.0; end = c.in-TooMany.end; stand = found.1 }, omega arith) }
 
 pub returns-else-end-gt-END_LIMIT-2-clause-unread : goal.returns-else-end-gt-END_LIMIT-2-clause-unread
 returns-else-end-gt-END_LIMIT-2-clause-unread c =
-    let found = subst (IsFound (drop 16 c.args.bytes.now)) c.in-TooMany.is c.in_ok-entries.ensures in
+    let found = subst (IsFound c.args.bytes.now) c.in-TooMany.is c.in_ok-entries.ensures in
     record { begins = header_from c.args.bytes.now _ c.min.ensures c.in_default.ensures.good; short = omega arith; row = record { entries = found.0; end = c.in-TooMany.end; stand = found.1 }; near = omega arith; many = found.2 }
 
 pub returns-else-end-gt-END_LIMIT-clause-read : goal.returns-else-end-gt-END_LIMIT-clause-read
 returns-else-end-gt-END_LIMIT-clause-read c =
-    let found = subst (IsFound (drop 16 c.args.bytes.now)) c.in-Few.is c.in_ok-entries.ensures in
+    let found = subst (IsFound c.args.bytes.now) c.in-Few.is c.in_ok-entries.ensures in
     record {
       accepted = record {
         reads = record { begins = header_from c.args.bytes.now _ c.min.ensures c.in_default.ensures.good; stand = found.0 };
@@ -35,4 +36,11 @@ returns-else-end-gt-END_LIMIT-clause-read c =
         few = found.1;
       };
       length = refl;
+      clean = found.2;
     }
+
+pub returns-else-end-gt-END_LIMIT-clause-bounded : goal.returns-else-end-gt-END_LIMIT-clause-bounded
+returns-else-end-gt-END_LIMIT-clause-bounded c =
+    let found = subst (IsFound c.args.bytes.now) c.in-Few.is c.in_ok-entries.ensures in
+    let begins = header_from c.args.bytes.now _ c.min.ensures c.in_default.ensures.good in
+    record { near = omega arith; few = found.1; within = ends_within c.args.bytes.now c.in-Few.entries c.in-Few.end (long_of_header c.args.bytes.now begins) found.0 }

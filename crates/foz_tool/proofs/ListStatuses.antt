@@ -1,0 +1,136 @@
+-- What each status of `list` says.
+use Rattle.std.proofs.Common.{◌≡◌, ℕ, ◌≤◌, ◌++◌, Bool, true, false, if◌then◌else◌, List, take, Result, Ok, Err, ◌⊎◌, inl, inr, refl, sym, ap, ◌∙◌, subst, arith}
+use Rattle.disk_model.specs.Faults.{Rose}
+use Rattle.foz_archive.specs.declared.scanned.Scanned.{Scanned}
+use Rattle.foz_archive.specs.declared.refusal.ArchiveError.{ArchiveError}
+use Rattle.foz_archive.specs.Reading.{IsReading}
+use Rattle.foz_archive.specs.Refusal.{IsRefusedBy}
+use Rattle.foz_archive.proofs.Unique.{IsReading-unique, never_both as read_or_refused}
+use Rattle.foz_tool.specs.declared.stop.Stop.{Stop}
+use Rattle.foz_tool.specs.declared.stop.Stop.TheVariants.{Usage, ReadFault, WriteFault, Absent, Archive, Memory}
+use Rattle.foz_tool.specs.FileRead.{IsFileReading, IsFileRefused}
+use Rattle.foz_tool.specs.ListText.{list_text, is_flawless}
+use Rattle.foz_tool.specs.View.{View, File, absent, holds, taken, FileFaultRose}
+use Rattle.foz_tool.specs.Status.{status_of}
+use Rattle.foz_tool.specs.ListRun.{ListEnds, Lists}
+
+content_of : List ℕ → File → List ℕ
+content_of other absent = other
+content_of other (holds bytes) = bytes
+content_of other taken = other
+
+-- a file has one content
+holds-injective : (a b : List ℕ) → holds a ≡ holds b → a ≡ b
+unfolding content_of
+holds-injective a b is = ap (content_of a) is
+
+-- a file has one reading
+pub one_reading : (file : File) (bytes : List ℕ) (mine other : Scanned) → IsFileReading file mine → file ≡ holds bytes → IsReading bytes other → mine ≡ other
+one_reading file bytes mine other read is reading =
+    IsReading-unique bytes mine other (subst (λ (l : List ℕ). IsReading l mine) (holds-injective read.bytes bytes (sym read.is_there ∙ is)) read.reading) reading
+
+-- a file that is refused has no reading
+pub no_reading : (file : File) (bytes : List ℕ) (scanned : Scanned) (error : ArchiveError) → IsFileReading file scanned → file ≡ holds bytes → IsRefusedBy bytes error → ⊥
+no_reading file bytes scanned error read is refused =
+    read_or_refused bytes scanned error (subst (λ (l : List ℕ). IsReading l scanned) (holds-injective read.bytes bytes (sym read.is_there ∙ is)) read.reading) refused
+
+is_there : File → Bool
+is_there absent = false
+is_there (holds bytes) = true
+is_there taken = true
+
+absent_holds : (bytes : List ℕ) → absent ≡ holds bytes → ⊥
+unfolding is_there
+absent_holds bytes is = let same : false ≡ true = ap is_there is in cc
+
+-- a file that is absent has no reading
+pub no_absent : (file : File) (scanned : Scanned) → IsFileReading file scanned → file ≡ absent → ⊥
+no_absent file scanned read is = absent_holds read.bytes (sym is ∙ read.is_there)
+
+small : (b : Bool) → status_of (Ok b) ≤ 1
+small true = omega arith
+small false = omega arith
+
+module _ (before after : View) where
+  pub none_other : (outcome : Result Bool Stop) (status : ℕ) → ListEnds before after outcome → status ≡ status_of outcome → (status ≤ 1) ⊎ (status ≡ 3) ⊎ (status ≡ 4) ⊎ (status ≡ 6) ⊎ (status ≡ 7)
+  none_other (Ok flawless) status ends is = inl (omega (arith, is, small flawless))
+  none_other (Err Usage) status ends is = absurd ends
+  none_other (Err ReadFault) status ends is = inr (inl is)
+  none_other (Err WriteFault) status ends is = inr (inr (inl is))
+  none_other (Err Absent) status ends is = inr (inr (inr (inl is)))
+  none_other (Err (Archive error)) status ends is = inr (inr (inr (inl is)))
+  none_other (Err Memory) status ends is = inr (inr (inr (inr is)))
+
+  pub text : (outcome : Result Bool Stop) (status : ℕ) (file : List ℕ) (scanned : Scanned) → ListEnds before after outcome → status ≡ status_of outcome → before.file ≡ holds file → IsReading file scanned
+      → status ≤ 1 → (after.written ≡ before.written ++ list_text scanned) × (status ≡ (if is_flawless scanned then 0 else 1))
+  text (Ok flawless) status file scanned ends is told reading le =
+      let one = one_reading before.file file ends.scanned scanned ends.reading told reading in
+      (
+        ends.written ∙ ap (λ (s : Scanned). before.written ++ list_text s) one,
+        is ∙ ap (λ (b : Bool). if b then 0 else 1) (ends.is_flawless ∙ ap is_flawless one),
+      )
+  text (Err Usage) status file scanned ends is told reading le = absurd ends
+  text (Err ReadFault) status file scanned ends is told reading le = absurd (omega (arith, is))
+  text (Err WriteFault) status file scanned ends is told reading le = absurd (omega (arith, is))
+  text (Err Absent) status file scanned ends is told reading le = absurd (omega (arith, is))
+  text (Err (Archive error)) status file scanned ends is told reading le = absurd (omega (arith, is))
+  text (Err Memory) status file scanned ends is told reading le = absurd (omega (arith, is))
+
+  pub read_fault : (outcome : Result Bool Stop) (status : ℕ) → ListEnds before after outcome → status ≡ status_of outcome → status ≡ 3 → FileFaultRose before after × (after.written ≡ before.written)
+  read_fault (Ok flawless) status ends is e = absurd (omega (arith, is, small flawless))
+  read_fault (Err Usage) status ends is e = absurd ends
+  read_fault (Err ReadFault) status ends is e = (ends.stopped, ends.written)
+  read_fault (Err WriteFault) status ends is e = absurd (omega (arith, is))
+  read_fault (Err Absent) status ends is e = absurd (omega (arith, is))
+  read_fault (Err (Archive error)) status ends is e = absurd (omega (arith, is))
+  read_fault (Err Memory) status ends is e = absurd (omega (arith, is))
+
+  pub write_fault : (outcome : Result Bool Stop) (status : ℕ) (file : List ℕ) (scanned : Scanned) → ListEnds before after outcome → status ≡ status_of outcome → before.file ≡ holds file → IsReading file scanned
+      → status ≡ 4 → Rose before.output_faults after.output_faults × ((count : ℕ) × (after.written ≡ before.written ++ take count (list_text scanned)))
+  write_fault (Ok flawless) status file scanned ends is told reading e = absurd (omega (arith, is, small flawless))
+  write_fault (Err Usage) status file scanned ends is told reading e = absurd ends
+  write_fault (Err ReadFault) status file scanned ends is told reading e = absurd (omega (arith, is))
+  write_fault (Err WriteFault) status file scanned ends is told reading e =
+      let one = one_reading before.file file ends.scanned scanned ends.reading told reading in
+      (ends.fault, (ends.count, ends.written ∙ ap (λ (s : Scanned). before.written ++ take ends.count (list_text s)) one))
+  write_fault (Err Absent) status file scanned ends is told reading e = absurd (omega (arith, is))
+  write_fault (Err (Archive error)) status file scanned ends is told reading e = absurd (omega (arith, is))
+  write_fault (Err Memory) status file scanned ends is told reading e = absurd (omega (arith, is))
+
+  pub refused : (outcome : Result Bool Stop) (status : ℕ) → ListEnds before after outcome → status ≡ status_of outcome → status ≡ 6
+      → ((before.file ≡ absent) ⊎ ((error : ArchiveError) × IsFileRefused before.file error)) × (after.written ≡ before.written)
+  refused (Ok flawless) status ends is e = absurd (omega (arith, is, small flawless))
+  refused (Err Usage) status ends is e = absurd ends
+  refused (Err ReadFault) status ends is e = absurd (omega (arith, is))
+  refused (Err WriteFault) status ends is e = absurd (omega (arith, is))
+  refused (Err Absent) status ends is e = (inl ends.stopped, ends.written)
+  refused (Err (Archive error)) status ends is e = (inr (error, ends.stopped), ends.written)
+  refused (Err Memory) status ends is e = absurd (omega (arith, is))
+
+  pub always_refused : (outcome : Result Bool Stop) (status : ℕ) (file : List ℕ) (error : ArchiveError) → ListEnds before after outcome → status ≡ status_of outcome → before.file ≡ holds file → IsRefusedBy file error
+      → (status ≡ 3) ⊎ (status ≡ 6) ⊎ (status ≡ 7)
+  always_refused (Ok flawless) status file error ends is told bad = absurd (no_reading before.file file ends.scanned error ends.reading told bad)
+  always_refused (Err Usage) status file error ends is told bad = absurd ends
+  always_refused (Err ReadFault) status file error ends is told bad = inl is
+  always_refused (Err WriteFault) status file error ends is told bad = absurd (no_reading before.file file ends.scanned error ends.reading told bad)
+  always_refused (Err Absent) status file error ends is told bad = inr (inl is)
+  always_refused (Err (Archive other)) status file error ends is told bad = inr (inl is)
+  always_refused (Err Memory) status file error ends is told bad = inr (inr is)
+
+  pub always_absent : (outcome : Result Bool Stop) (status : ℕ) → ListEnds before after outcome → status ≡ status_of outcome → before.file ≡ absent → (status ≡ 3) ⊎ (status ≡ 6) ⊎ (status ≡ 7)
+  always_absent (Ok flawless) status ends is gone = absurd (no_absent before.file ends.scanned ends.reading gone)
+  always_absent (Err Usage) status ends is gone = absurd ends
+  always_absent (Err ReadFault) status ends is gone = inl is
+  always_absent (Err WriteFault) status ends is gone = absurd (no_absent before.file ends.scanned ends.reading gone)
+  always_absent (Err Absent) status ends is gone = inr (inl is)
+  always_absent (Err (Archive error)) status ends is gone = inr (inl is)
+  always_absent (Err Memory) status ends is gone = inr (inr is)
+
+  pub memory : (outcome : Result Bool Stop) (status : ℕ) → ListEnds before after outcome → status ≡ status_of outcome → status ≡ 7 → after.written ≡ before.written
+  memory (Ok flawless) status ends is e = absurd (omega (arith, is, small flawless))
+  memory (Err Usage) status ends is e = absurd ends
+  memory (Err ReadFault) status ends is e = ends.written
+  memory (Err WriteFault) status ends is e = absurd (omega (arith, is))
+  memory (Err Absent) status ends is e = ends.written
+  memory (Err (Archive error)) status ends is e = ends.written
+  memory (Err Memory) status ends is e = ends.written

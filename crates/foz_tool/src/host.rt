@@ -1,0 +1,28 @@
+//! The outside of the program.
+ghost use Rattle.std.specs.Prelude.{ℕ, List};
+ghost use Rattle.foz_tool.specs.View.{View, file_of, faults_of};
+
+use disk_model::{Shelf, Sink};
+
+/// What the program reads, writes and keeps its files in.
+#[derive(Drop)]
+pub struct Host<O, F> {
+    pub output: O,
+    pub errors: O,
+    pub files: F,
+}
+
+/// What contracts see of the outside where a command works on one file. No code is in it.
+pub trait Seen {
+    ghost view: { Self → List ℕ → View };
+}
+
+impl<O: Sink, F: Shelf> Seen for Host<O, F> {
+    ghost view = { λ host name. record {
+      file = file_of F.Held.content (F.places host.files name);
+      disk_faults = faults_of F.Held.faults (F.places host.files name);
+      shelf_faults = F.faults host.files;
+      written = O.written host.output;
+      output_faults = O.faults host.output;
+    } };
+}

@@ -1,0 +1,45 @@
+//! The one call that the program makes.
+ghost use Rattle.std.specs.Prelude.{◌≡◌, ◌≢◌, ℕ, List, map, string_bytes, Some, None};
+ghost use Rattle.disk_model.specs.Faults.{Rose};
+ghost use Rattle.disk_model.specs.Place.{out};
+ghost use Rattle.foz_tool.specs.declared.command.Command.TheVariants as command;
+ghost use Rattle.foz_tool.specs.Command.{command_of};
+ghost use Rattle.foz_tool.specs.View.{KeepsFiles};
+ghost use Rattle.foz_tool.specs.ListRun.{Lists};
+
+use crate::command::{ArgError, Command, command_of};
+use crate::complaint::complain;
+use crate::host::{Host, Seen};
+use crate::list::list_cmd;
+use crate::stop::Stop;
+use disk_model::{Shelf, Sink};
+use std::alloc::Global;
+
+/// Does what the words ask for, and answers the status.
+pub fn run<O: Sink, F: Shelf>(alloc: Global, words: &[String], host: &mut Host<O, F>) -> u8
+    requires nothing_out { F.tells → (name : List ℕ) → F.places host.old.files name ≢ out }
+
+    // Words that are no form of a command have status 2, and nothing happens.
+    ensures usage { command_of (map string_bytes words.now) ≡ None → result ≡ 2 }
+    ensures not_written { O.tells → command_of (map string_bytes words.now) ≡ None → O.written host.new.output ≡ O.written host.old.output }
+    ensures not_touched { F.tells → command_of (map string_bytes words.now) ≡ None → F.places host.new.files ≡ F.places host.old.files }
+
+    ensures list { F.tells → F.Held.tells_content → O.tells → (file : List ℕ) → command_of (map string_bytes words.now) ≡ Some (command.List file)
+        → let view = ⟦<Host<O, F> as Seen>⟧.view in Lists (view host.old file) (view host.new file) result }
+    ensures list_keeps { F.tells → F.Held.tells_content → (file : List ℕ) → command_of (map string_bytes words.now) ≡ Some (command.List file)
+        → KeepsFiles F.Held.content (F.places host.old.files) (F.places host.new.files) file }
+
+    ensures write_fault { result ≡ 4 → Rose (O.faults host.old.output) (O.faults host.new.output) }
+{
+    match command_of(words) {
+        Ok(Command::List { file }) => list_cmd(alloc, host, file),
+        Err(ArgError::Usage) => {
+            complain(alloc, &mut host.errors, &Stop::Usage);
+            2
+        }
+        Err(ArgError::Memory) => {
+            complain(alloc, &mut host.errors, &Stop::Memory);
+            7
+        }
+    }
+}
