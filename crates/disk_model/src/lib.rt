@@ -5,24 +5,36 @@ ghost use Rattle.std.specs.Prelude.{◌≡◌, IfOk};
 ghost use Rattle.disk_model.specs.Disk.{NothingPending, latest};
 
 mod call;
+mod call_count;
 mod disk;
 mod fault;
-mod file;
-mod memory;
-mod ram;
+mod file_disk;
+mod folder_shelf;
+mod memory_disk;
+mod memory_shelf;
+mod memory_sink;
+mod memory_source;
+mod names_out;
+mod ram_disk;
 mod shelf;
 mod sink;
 mod source;
+mod std_streams;
 mod synced;
 
 pub use disk::Disk;
 pub use fault::Failed;
-pub use file::FileDisk;
-pub use memory::MemDisk;
-pub use ram::RamDisk;
+pub use file_disk::FileDisk;
+pub use folder_shelf::FolderShelf;
+pub use memory_disk::MemDisk;
+pub use memory_shelf::MemShelf;
+pub use memory_sink::MemSink;
+pub use memory_source::MemSource;
+pub use ram_disk::RamDisk;
 pub use shelf::{Mode, Shelf, TakeError};
 pub use sink::Sink;
 pub use source::Source;
+pub use std_streams::{StdSink, StdSource};
 pub use synced::{cut_synced, write_synced};
 
 #[cfg(test)]

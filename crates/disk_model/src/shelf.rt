@@ -5,7 +5,7 @@ ghost use Rattle.disk_model.specs.Faults.{Rose};
 ghost use Rattle.disk_model.specs.Place.{Place, missing, stored, out, with_place};
 
 use crate::Disk;
-use std::alloc::Global;
+use std::alloc::{AllocError, Global};
 
 /// What a file is taken for.
 #[derive(Clone, Copy, Debug, PartialEq, Eq)]
@@ -21,6 +21,16 @@ pub enum TakeError {
     Absent,
     Failed,
     Memory,
+}
+
+impl From<AllocError> for TakeError {
+    ghost use Rattle.disk_model.specs.declared.shelf.TakeError.TheVariants.{Memory};
+
+    ghost from_gives = { λ _ error. error ≡ Memory };
+
+    fn from(_refused: AllocError) -> TakeError {
+        TakeError::Memory
+    }
 }
 
 /// Files by their names. A file that is taken is out until it is put back.

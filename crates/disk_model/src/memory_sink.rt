@@ -1,0 +1,68 @@
+// A sink in memory.
+ghost use Rattle.std.specs.Prelude.{◌≡◌, ◌≤◌, [], length, IfOk, vec_capacity};
+
+use crate::call_count::CallCount;
+use crate::memory_disk::extend_within;
+use crate::{Failed, Sink};
+use std::alloc::{AllocError, Global};
+
+#[derive(Drop)]
+pub struct MemSink {
+    written: Vec<u8>,
+    room: usize,
+    step: usize,
+    calls: CallCount,
+
+    ghost within: { length written.items ≤ room },
+    ghost fits: { room ≤ vec_capacity written },
+    ghost moves: { 1 ≤ step },
+}
+
+impl MemSink {
+    /// A sink that takes `room` bytes in all, at most `step` in a call. It fails at the calls with the listed numbers,
+    /// counted from 0, and once its room is used up.
+    pub fn new(
+        alloc: Global,
+        room: usize,
+        step: usize,
+        failing: Vec<u64>,
+    ) -> Result<MemSink, AllocError>
+        requires moves { 1 ≤ step }
+        ensures written { IfOk result (λ sink. ⟦<MemSink as Sink>⟧.written sink ≡ []) }
+        ensures faults { IfOk result (λ sink. ⟦<MemSink as Sink>⟧.faults sink ≡ 0) }
+    {
+        Ok(MemSink {
+            written: Vec::with_capacity(alloc, room)?,
+            room,
+            step,
+            calls: CallCount::new(failing),
+        })
+    }
+
+    /// What was written.
+    pub fn written(&self) -> &[u8]
+        ensures { result.now ≡ ⟦<MemSink as Sink>⟧.written self.now }
+    {
+        self.written.as_slice()
+    }
+}
+
+impl Sink for MemSink {
+    ghost tells = { Unit {0} };
+
+    ghost written = { λ sink. sink.written.items };
+
+    ghost faults = { λ sink. sink.calls.faults };
+
+    fn write(&mut self, piece: &[u8]) -> Result<usize, Failed> {
+        let taken = piece
+            .len()
+            .min(self.step)
+            .min(self.room - self.written.len());
+        if self.calls.fails_next() || (taken == 0 && !piece.is_empty()) {
+            return Err(self.calls.fail());
+        }
+        extend_within(&mut self.written, &piece[..taken]);
+        Ok(taken)
+    }
+}
