@@ -49,11 +49,11 @@ fn end_of_row(bytes: &[u8], from: usize) -> usize
     ensures { (entries : List Entry) × Stand from bytes.now entries result }
 {
     let mut place = from;
-    let mut rest = bytes;
-    while let Some(head) = first_entry(rest) {
-        let (_, after) = rest.split_at(head.total);
+    let mut left = bytes;
+    while let Some(head) = first_entry(left) {
+        let (_, after) = left.split_at(head.total);
         place += head.total;
-        rest = after;
+        left = after;
     }
     place
 }

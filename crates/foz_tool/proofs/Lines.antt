@@ -1,6 +1,6 @@
 -- The lines of a list, one after the other.
-use Rattle.std.proofs.Common.{◌≡◌, ℕ, zero, suc, ◌+◌, ◌<◌, ◌≤◌, Bool, true, false, ◌&&◌, List, [], ◌∷◌, ◌++◌, length, get_or, take, drop, refl, sym, ap, ◌∙◌, subst, append_assoc, append-nil, length-append, arith}
-use Rattle.std.proofs.lemmas.List.{take_more, drop_more, drop_all, length-drop}
+use Rattle.std.proofs.Common.{◌≡◌, ℕ, ◌+◌, ◌<◌, ◌≤◌, Bool, true, false, ◌&&◌, List, [], ◌∷◌, ◌++◌, length, get_or, take, drop, refl, sym, ap, ◌∙◌, append_assoc, append-nil}
+use Rattle.std.proofs.lemmas.List.{take_more, drop_more, drop_all}
 use Rattle.foz_entry.specs.declared.cut.Entry.{Entry}
 use Rattle.foz_archive.specs.declared.scanned.Scanned.{Scanned}
 use Rattle.foz_tool.specs.ListText.{line, is_sound, lines_after, are_sound_after, last_line, list_text, is_flawless}

@@ -1,5 +1,5 @@
 -- What each status of `list` says.
-use Rattle.std.proofs.Common.{◌≡◌, ℕ, ◌≤◌, ◌++◌, Bool, true, false, if◌then◌else◌, List, take, Result, Ok, Err, ◌⊎◌, inl, inr, refl, sym, ap, ◌∙◌, subst, arith}
+use Rattle.std.proofs.Common.{◌≡◌, ℕ, ◌≤◌, ◌++◌, Bool, true, false, if◌then◌else◌, List, take, Result, Ok, Err, ◌⊎◌, inl, inr, sym, ap, ◌∙◌, subst, arith}
 use Rattle.disk_model.specs.Faults.{Rose}
 use Rattle.foz_archive.specs.declared.scanned.Scanned.{Scanned}
 use Rattle.foz_archive.specs.declared.refusal.ArchiveError.{ArchiveError}
@@ -12,7 +12,7 @@ use Rattle.foz_tool.specs.FileRead.{IsFileReading, IsFileRefused}
 use Rattle.foz_tool.specs.ListText.{list_text, is_flawless}
 use Rattle.foz_tool.specs.View.{View, File, absent, holds, taken, FileFaultRose}
 use Rattle.foz_tool.specs.Status.{status_of}
-use Rattle.foz_tool.specs.ListRun.{ListEnds, Lists}
+use Rattle.foz_tool.specs.ListRun.{ListEnds}
 
 content_of : List ℕ → File → List ℕ
 content_of other absent = other
@@ -64,8 +64,7 @@ module _ (before after : View) where
   pub text : (outcome : Result Bool Stop) (status : ℕ) (file : List ℕ) (scanned : Scanned) → ListEnds before after outcome → status ≡ status_of outcome → before.file ≡ holds file → IsReading file scanned
       → status ≤ 1 → (after.written ≡ before.written ++ list_text scanned) × (status ≡ (if is_flawless scanned then 0 else 1))
   text (Ok flawless) status file scanned ends is told reading le =
-      let one = one_reading before.file file ends.scanned scanned ends.reading told reading in
-      (
+      let one = one_reading before.file file ends.scanned scanned ends.reading told reading in (
         ends.written ∙ ap (λ (s : Scanned). before.written ++ list_text s) one,
         is ∙ ap (λ (b : Bool). if b then 0 else 1) (ends.is_flawless ∙ ap is_flawless one),
       )

@@ -1,5 +1,5 @@
 -- How the command `list` ends.
-use Rattle.std.specs.Prelude.{◌≡◌, ℕ, Bool, List, ◌++◌, take, Result, Ok, Err}
+use Rattle.std.specs.Prelude.{◌≡◌, ℕ, Bool, ◌++◌, take, Result, Ok, Err}
 use Rattle.disk_model.specs.Faults.{Rose}
 use Rattle.foz_archive.specs.declared.scanned.Scanned.{Scanned}
 use Rattle.foz_tool.specs.declared.stop.Stop.{Stop}

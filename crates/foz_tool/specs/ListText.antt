@@ -1,9 +1,8 @@
 -- The text of the command `list`.
-use Rattle.std.specs.Prelude.{◌≡◌, ℕ, ◌+◌, ◌-◌, ◌==◌, ◌&&◌, Bool, true, false, if◌then◌else◌, List, [], ◌∷◌, ◌++◌, length, codes, decimal, Option, Some, None, is_none}
-use Rattle.std.specs.List.{list_any, list_all}
+use Rattle.std.specs.Prelude.{ℕ, ◌-◌, ◌==◌, ◌&&◌, Bool, true, false, if◌then◌else◌, List, [], ◌∷◌, ◌++◌, length, codes, decimal, Option, Some, None, is_none}
+use Rattle.std.specs.List.{list_any}
 use Rattle.foz_words.specs.Hex.{hex_text}
 use Rattle.foz_words.specs.declared.key.Key.{Key}
-use Rattle.foz_entry.specs.declared.cut.Cut.{Cut}
 use Rattle.foz_entry.specs.declared.cut.Entry.{Entry}
 use Rattle.foz_entry.specs.declared.damage.EntryCause.{EntryCause}
 use Rattle.foz_entry.specs.declared.damage.EntryCause.TheVariants.{Deflate, BadFormat, TooLarge, SizeDiffers, BadChecksum}

@@ -18,3 +18,5 @@ pub use list::list_cmd;
 pub use program::run;
 pub use statuses::list_statuses;
 
+#[cfg(test)]
+mod tests;

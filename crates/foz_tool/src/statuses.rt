@@ -31,5 +31,4 @@ pub fn list_statuses()
     ensures always_absent { (before after : View) (status : ℕ) → Lists before after status → before.file ≡ absent → (status ≡ 3) ⊎ (status ≡ 6) ⊎ (status ≡ 7) }
 
     ensures memory { (before after : View) (status : ℕ) → Lists before after status → status ≡ 7 → after.written ≡ before.written }
-{
-}
+{}

@@ -10,7 +10,7 @@ split_at-requires c = omega (arith, length-whole _ _ _ _ c.in-Some.ensures.found
 pub loop-head-preserved : goal.loop-head-preserved
 loop-head-preserved c =
     let head = c.in-Some.head in
-    let rest = c.loop-head.rest.now in
+    let rest = c.loop-head.left.now in
     let read = c.loop-head.invariant.read in
     let entry : Entry = record { offset = c.loop-head.place; head = head; payload = take head.size (drop 56 rest) } in
     let next = rw (← c.split_at.ensures.back) at c.in-Some.ensures.found in
@@ -22,4 +22,4 @@ loop-head-preserved c =
 pub returns : goal.returns
 returns c =
     let read = c.loop-head.invariant.read in
-    (read.0, goes_on_none c.args.from c.args.bytes.now read.0 c.loop-head.place c.loop-head.rest.now read.1 c.in_default.ensures.none)
+    (read.0, goes_on_none c.args.from c.args.bytes.now read.0 c.loop-head.place c.loop-head.left.now read.1 c.in_default.ensures.none)

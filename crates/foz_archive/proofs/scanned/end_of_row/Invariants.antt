@@ -5,9 +5,9 @@ use Rattle.foz_archive.proofs.scanned.end_of_row.Given as goal
 
 abbrev pub invariant-loop-head : goal.invariant-loop-head
 invariant-loop-head l = record {
-  read : (entries : List Entry) × GoesOn l.from l.bytes entries l.place l.rest;
-  placed : l.place + length l.rest ≡ l.from + length l.bytes;
+  read : (entries : List Entry) × GoesOn l.from l.bytes entries l.place l.left;
+  placed : l.place + length l.left ≡ l.from + length l.bytes;
 }
 
 abbrev pub decreases-loop-head : goal.decreases-loop-head
-decreases-loop-head l = length l.rest
+decreases-loop-head l = length l.left

@@ -1,4 +1,4 @@
-use Rattle.std.proofs.Common.{drop, refl, subst, arith, inr}
+use Rattle.std.proofs.Common.{refl, subst, arith, inr}
 use Rattle.foz_archive.specs.Found.{IsFound}
 use Rattle.foz_archive.proofs.Standing.{ends_within}
 use Rattle.foz_archive.proofs.Fronts.{front_of, header_from, long_of_header}

@@ -1,5 +1,4 @@
-use Rattle.std.proofs.Common.{◌≡◌, ◌∙◌, ◌++◌, append_assoc}
-use Rattle.foz_tool.specs.ListText.{last_line, rest_word}
+use Rattle.std.proofs.Common.{◌∙◌, append_assoc}
 use Rattle.foz_tool.proofs.list_text.push_last_line.Goals as goal
 
 pub returns : goal.returns

@@ -1,4 +1,4 @@
-use Rattle.std.proofs.Common.{◌≡◌, refl, ◌∙◌}
+use Rattle.std.proofs.Common.{refl, ◌∙◌}
 use Rattle.foz_tool.proofs.Lines.{lines_more, all_lines, list_text_is, is_flawless_is}
 use Rattle.foz_tool.proofs.list_text.push_list.Goals as goal
 

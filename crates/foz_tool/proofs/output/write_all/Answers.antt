@@ -1,4 +1,4 @@
-use Rattle.std.proofs.Common.{◌≡◌, ℕ, ◌∙◌, take, arith}
+use Rattle.std.proofs.Common.{◌∙◌, arith}
 use Rattle.std.proofs.lemmas.Result.{err_from_is_err_and}
 use Rattle.foz_tool.proofs.Pieces.{written_more, written_front}
 use Rattle.foz_tool.proofs.output.write_all.Goals as goal

@@ -1,0 +1,32 @@
+//! The program `foz`: it hands the standard streams, the files of the system and its words to `foz_tool::run`.
+#![tactic(auto)]
+
+use disk_model::{FolderShelf, StdSink};
+use foz_tool::{Host, run};
+use std::env;
+use std::process::ExitCode;
+
+/// The status where the words can't be had.
+const USAGE: u8 = 2;
+
+/// The status where there is no memory for them.
+const MEMORY: u8 = 7;
+
+fn main(rt: HostRuntime) -> ExitCode {
+    let alloc = rt.alloc();
+    let Ok(arguments) = env::args(&rt) else {
+        return ExitCode::from(USAGE);
+    };
+    let mut words = Vec::new(alloc);
+    for word in arguments.skip(1) {
+        if words.push(word).is_err() {
+            return ExitCode::from(MEMORY);
+        }
+    }
+    let mut host = Host {
+        output: StdSink::output(rt.stdout()),
+        errors: StdSink::errors(rt.stderr()),
+        files: FolderShelf::new(rt),
+    };
+    ExitCode::from(run(alloc, words.as_slice(), &mut host))
+}
