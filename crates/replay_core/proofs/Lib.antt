@@ -12,3 +12,4 @@ pub mod Queueing
 pub mod Settled
 pub mod Using
 pub mod Tallying
+pub mod Independence

@@ -134,7 +134,16 @@ module _ (plan : Plan) (marks : List Bool) (states : List SlotState) (verdicts :
       hangs_here h (Absent key) e = absurd (h (subst (LostIn marks verdicts) (sym e) tt))
 
       pending_is : (LostIn marks verdicts dep → ⊥) → IsProspect setup es i (Pending place)
-      pending_is h = (let l = slice_get_within (deps_of plan i) place dep first.at_place in omega arith, front_met, hangs_here h dep refl)
+      pending_is h = (
+        (let l = slice_get_within (deps_of plan i) place dep first.at_place in omega arith),
+        front_met,
+        hangs_here h dep refl,
+        not_all_met,
+        λ p miss. (
+            let lost = lost_dep p miss.1 in
+            let same : lost.0 ≡ dep = (let e : Some lost.0 ≡ Some dep = sym lost.1 ∙ (ap (slice_get (deps_of plan i)) (miss_here p miss) ∙ first.at_place) in cc) in
+            h (lost_there dep here_in_range (subst (IsLost plan es) same lost.2))),
+      )
 
     pub prospect_is : (answer : Prospect) → ProspectIn marks verdicts (deps_of plan i) answer → IsProspect setup es i answer
     prospect_is Ready h = ready_is h

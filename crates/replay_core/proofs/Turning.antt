@@ -158,3 +158,7 @@ misses_join a b c x y = record {
   allowed = GoesOn-append a.setup a.events x.misses y.misses x.allowed (subst (λ (h : History). GoesOn h.setup h.events y.misses) x.new_is y.allowed);
   new_is = y.new_is ∙ (ap (λ (h : History). with_events h y.misses) x.new_is ∙ ap (λ es. record { setup = a.setup; events = es }) (append_assoc a.events x.misses y.misses));
 }
+
+pub run_seen : (plan : Plan) (marks : List Bool) (states : List SlotState) (verdicts : List (Option Verdict)) (es : List Event) (capacity : ℕ) (h : History) →
+    FitsTogether plan marks states verdicts es capacity → seen plan states es ≡ h → IsRun h.setup h.events
+run_seen plan marks states verdicts es capacity h fits is = subst (λ (h : History). IsRun h.setup h.events) is fits.keeps.run

@@ -113,4 +113,4 @@ HasMissAt s es i p = All (IsMet es) (take p (deps_of s.plan i)) × IsSomeAnd (sl
 abbrev pub IsProspect : Setup → List Event → ℕ → Prospect → Type 0
 IsProspect s es i Ready = All (IsMet es) (deps_of s.plan i) × ((p : ℕ) → HasMissAt s es i p → ⊥)
 IsProspect s es i (Lost place) = HasMissAt s es i place × (All (IsMet es) (deps_of s.plan i) → ⊥)
-IsProspect s es i (Pending place) = (place ≤ length (deps_of s.plan i)) × All (IsMet es) (take place (deps_of s.plan i)) × HangsAt s es place i
+IsProspect s es i (Pending place) = (place ≤ length (deps_of s.plan i)) × All (IsMet es) (take place (deps_of s.plan i)) × HangsAt s es place i × (All (IsMet es) (deps_of s.plan i) → ⊥) × ((p : ℕ) → HasMissAt s es i p → ⊥)

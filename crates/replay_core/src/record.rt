@@ -126,6 +126,7 @@ impl Record {
     /// Every item has a verdict.
     pub fn all_decided(&self) -> bool
         ensures all { IsTrue result ↔ AllDecided self.now.setup self.now.events }
+        ensures run { IsRun self.now.setup self.now.events }
         ensures hands { SomeHeld self.now.events ⊎ (SomeHeld self.now.events → ⊥) }
     {
         let counts = self.counts;
