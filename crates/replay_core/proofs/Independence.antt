@@ -15,8 +15,8 @@ use Rattle.replay_core.proofs.Lawful.{verdicts_are_fates, fates_are_unique, same
 pointwise : {X : Type 0} (f g : ℕ → X) (n : ℕ) → ((i : ℕ) → i < n → f i ≡ g i) → map f (range_with_len 0 n) ≡ map g (range_with_len 0 n)
 pointwise f g n h =
     same_lists (map f (range_with_len 0 n)) (map g (range_with_len 0 n)) (length-map-range_with_len f 0 n ∙ sym (length-map-range_with_len g 0 n)) (λ k d l.
-      let inside : k < n = omega (arith, l, length-map-range_with_len f 0 n) in
-      get_or-map-range_with_len f 0 n k k d inside (omega arith) ∙ (h k inside ∙ sym (get_or-map-range_with_len g 0 n k k d inside (omega arith))))
+    let inside : k < n = omega (arith, l, length-map-range_with_len f 0 n) in
+    get_or-map-range_with_len f 0 n k k d inside (omega arith) ∙ (h k inside ∙ sym (get_or-map-range_with_len g 0 n k k d inside (omega arith))))
 
 pub verdicts_fated : VerdictsAreFates
 unfolding verdict_list
