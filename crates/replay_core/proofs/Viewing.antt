@@ -12,7 +12,7 @@ use Rattle.replay_core.specs.declared.event.Verdict.{Verdict}
 use Rattle.replay_core.specs.declared.event.SlotState.{SlotState}
 use Rattle.replay_core.specs.declared.event.SlotState.TheVariants.{Idle, Holds, Dead}
 use Rattle.replay_core.specs.declared.counts.Counts.{Counts}
-use Rattle.std.specs.Prelude.{nat_eq, ◌+◌}
+use Rattle.std.specs.Prelude.{nat_eq, ◌+◌, ◌≤◌}
 use Rattle.std.proofs.lemmas.Bool.{eqb-true, eq-eqb}
 use Rattle.replay_core.specs.Runs.{Setup, slot_at, verdict_of, verdict_list, AllDecided, IsWaiting}
 use Rattle.replay_core.specs.Histories.{History}
@@ -104,3 +104,8 @@ decided_seen plan marks states verdicts es capacity h c n fits tally is len =
     let counted = all_counted (record { plan = plan; slots = length states }) es verdicts c tally fits.keeps.items fits.keeps.each_verdict in
     subst (λ (h : History). IsTrue (nat_eq (c.done + c.refused + c.blamed + c.missing) n) ↔ AllDecided h.setup h.events) is
     (λ e. counted.0 (eqb-true (c.done + c.refused + c.blamed + c.missing) n e ∙ len), λ all. eq-eqb (c.done + c.refused + c.blamed + c.missing) n (counted.1 all ∙ sym len))
+
+-- three events for each of 1,048,576 items, and one for each of 16 slots
+pub few_events : (plan : Plan) (marks : List Bool) (states : List SlotState) (verdicts : List (Option Verdict)) (es : List Event) (capacity : ℕ) (counts : Counts) →
+    FitsTogether plan marks states verdicts es capacity → IsTally es verdicts counts → counts.events ≤ 3145744
+few_events plan marks states verdicts es capacity counts fits tally = omega (arith, tally.events, fits.keeps.budget, fits.plan_is.items, fits.few_slots)

@@ -138,6 +138,7 @@ impl Record {
     pub fn room(&self) -> u64
         ensures room { result ≡ room_of self.now.setup }
         ensures never_passed { length self.now.events ≤ result }
+        ensures few { result ≤ 3145744 }
     {
         3 * self.verdicts.len() as u64 + self.states.len() as u64
     }
@@ -159,7 +160,8 @@ impl Record {
 
     /// The counts of the events and verdicts.
     pub fn counts(&self) -> Counts
-        ensures { IsCountOf self.now.setup self.now.events result }
+        ensures counts { IsCountOf self.now.setup self.now.events result }
+        ensures few { result.events ≤ 3145744 }
     {
         self.counts
     }

@@ -110,10 +110,11 @@ impl Core {
         self.record.add(Event::Restart { slot });
     }
 
-    /// For how many events room was taken.
+    /// For how many events room was taken: three for each item and one for each slot.
     pub fn room(&self) -> u64
         ensures room { result ≡ room_of self.now.setup }
         ensures never_passed { length self.now.events ≤ result }
+        ensures few { result ≤ 3145744 }
     {
         self.record.room()
     }
@@ -133,9 +134,10 @@ impl Core {
         self.record.verdicts()
     }
 
-    /// The counts of the events and verdicts.
+    /// The counts of the events and verdicts. They are kept, and so cost no search.
     pub fn counts(&self) -> Counts
-        ensures { IsCountOf self.now.setup self.now.events result }
+        ensures counts { IsCountOf self.now.setup self.now.events result }
+        ensures few { result.events ≤ 3145744 }
     {
         self.record.counts()
     }
