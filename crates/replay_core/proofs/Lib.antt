@@ -1,0 +1,15 @@
+pub mod Steps
+pub mod Sound
+pub mod Keeping
+pub mod Viewing
+pub mod Ends
+pub mod Grounds
+pub mod Prospects
+pub mod Turning
+pub mod Marking
+pub mod Lawful
+pub mod Queueing
+pub mod Settled
+pub mod Using
+pub mod Tallying
+pub mod Independence

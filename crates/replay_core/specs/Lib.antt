@@ -1,0 +1,10 @@
+pub mod Plans
+pub mod Runs
+pub mod Histories
+pub mod Boards
+pub mod Turns
+pub mod Fates
+pub mod Laws
+pub mod Queues
+pub mod Counting
+pub mod Searching

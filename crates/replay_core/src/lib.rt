@@ -1,0 +1,32 @@
+//! The scheduler of a replay: a pure machine over starts, replies, deaths and restarts.
+#![tactic(auto)]
+
+mod answer;
+mod counts;
+mod event;
+mod founded;
+mod laws;
+mod notes;
+mod plain;
+mod plan;
+mod prospect;
+mod queues;
+mod record;
+mod scheduler;
+mod turn;
+mod users;
+
+pub use answer::Next;
+pub use counts::Counts;
+pub use event::{Event, SlotState, Verdict};
+pub use laws::{
+    blamed_in_hands, fates_are_unique, founded_is_least, one_verdict, restarts_follow_deaths,
+    same_outcomes_same_verdicts, same_replies_same_verdicts, starts_after_dependencies,
+    stuck_is_done, verdicts_are_fates,
+};
+pub use plain::PlainCore;
+pub use plan::{Dep, Plan};
+pub use scheduler::Core;
+
+#[cfg(test)]
+mod tests;
