@@ -9,6 +9,7 @@ use crate::view::View;
 use atomic_table::{Refused, Table};
 use std::alloc::{AllocFailed, Global};
 use std::sync::Wait;
+use std::thread;
 
 /// A lock with a history, round one value. Threads share it by `&`, each with a seat of its own.
 #[derive(Drop)]
@@ -100,7 +101,7 @@ impl<V: Kept + Drop> Desk<V> {
                 };
                 return value;
             }
-            self.table.shared.park(rt, 0, 1);
+            thread::yield_now();
         }
         unreachable!()
     }
@@ -116,7 +117,6 @@ impl<V: Kept + Drop> Desk<V> {
     {
         drop(self.table.shared.exchange(&mut seat.token, 0, Some(value)));
         self.table.shared.swap::<Free<V>>(&mut seat.token, 0, 0);
-        self.table.shared.wake_one(0);
     }
 
     /// One more seat, with the next number, which has seen what the root has.
