@@ -1,0 +1,6 @@
+use Rattle.std.proofs.Common.{◌≡◌}
+use Rattle.turn_desk.specs.Seats.{view_of, IsSameSeat, IsOutside}
+use Rattle.turn_desk.proofs.tests.write_thousand.Given as goal
+
+abbrev pub invariant-loop-counter : goal.invariant-loop-counter
+invariant-loop-counter g l = IsSameSeat l.initial.seat l.seat × IsOutside l.seat × ((view_of l.seat).turns ≡ l.counter)
