@@ -1,14 +1,11 @@
 -- The laws on the whole list of verdicts: it depends on the answers alone.
-use Rattle.std.proofs.Common.{ℕ, ◌≡◌, ◌<◌, List, Option, Some, length, map, sym, subst, ap, ◌∙◌, arith}
+use Rattle.std.proofs.Common.{ℕ, ◌≡◌, ◌<◌, Some, map, sym, subst, ap, ◌∙◌, arith}
 use Rattle.std.specs.List.{range_with_len}
 use Rattle.std.proofs.lemmas.List.{same_lists}
 use Rattle.std.proofs.lemmas.List.FromFn.{length-map-range_with_len, get_or-map-range_with_len}
-use Rattle.replay_core.specs.declared.plan.Plan.{Plan}
-use Rattle.replay_core.specs.declared.event.Event.{Event}
-use Rattle.replay_core.specs.declared.event.Verdict.{Verdict}
 use Rattle.replay_core.specs.Plans.{items_of}
-use Rattle.replay_core.specs.Runs.{Setup, verdict_of, verdict_list}
-use Rattle.replay_core.specs.Fates.{Outcome, IsFateList}
+use Rattle.replay_core.specs.Runs.{verdict_of, verdict_list}
+use Rattle.replay_core.specs.Fates.{IsFateList}
 use Rattle.replay_core.specs.Laws.{VerdictsAreFates, FatesAreUnique, SameOutcomesSameVerdicts, SameRepliesSameVerdicts}
 use Rattle.replay_core.proofs.Lawful.{verdicts_are_fates, fates_are_unique, same_replies_same_verdicts}
 

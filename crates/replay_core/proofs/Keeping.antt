@@ -1,10 +1,10 @@
 -- One more event, noted in the states and the verdicts.
-use Rattle.std.proofs.Common.{ℕ, zero, suc, ◌≡◌, ◌≢◌, ◌+◌, ◌*◌, ◌<◌, ◌≤◌, ◌^◌, Bool, true, false, cond, eqb, List, [], ◌∷◌, ◌++◌, length, Option, Some, None, refl, ap, sym, ◌∙◌, subst, inl, inr, ◌⊎◌, arith, get_or, set, take, drop, replicate, get_or-set_same, get_or-set_other}
-use Rattle.std.specs.Prelude.{All, is_none, count_by, sum_by}
+use Rattle.std.proofs.Common.{ℕ, ◌≡◌, ◌≢◌, ◌+◌, ◌*◌, ◌<◌, ◌≤◌, ◌^◌, Bool, false, cond, eqb, List, [], ◌∷◌, ◌++◌, length, Option, Some, None, refl, ap, sym, ◌∙◌, subst, inl, inr, arith, get_or, set, take, drop, replicate, get_or-set_same, get_or-set_other}
+use Rattle.std.specs.Prelude.{is_none, count_by, sum_by}
 use Rattle.std.proofs.lemmas.List.{length-set, length_push, append-nil, drop_all, take_all, get_or_default, length-replicate, get_or-replicate}
 use Rattle.std.proofs.lemmas.List.Elements.{All-replicate}
 use Rattle.std.proofs.lemmas.List.Sums.{sum_by-set, sum_by-le, count_by-le-length}
-use Rattle.std.proofs.lemmas.Bool.{eqb-true, eq-eqb, ne_eqb, cases_eq, cases_lt}
+use Rattle.std.proofs.lemmas.Bool.{eq-eqb, ne_eqb, cases_eq, cases_lt}
 use Rattle.replay_core.specs.declared.plan.Plan.{Plan}
 use Rattle.replay_core.specs.declared.event.Event.{Event}
 use Rattle.replay_core.specs.declared.event.Event.TheVariants.{Start, Reply, Death, Restart, Retire, Miss}
@@ -12,14 +12,14 @@ use Rattle.replay_core.specs.declared.event.Verdict.{Verdict}
 use Rattle.replay_core.specs.declared.event.Verdict.TheVariants.{Done, Blamed, Missing}
 use Rattle.replay_core.specs.declared.event.SlotState.{SlotState}
 use Rattle.replay_core.specs.declared.event.SlotState.TheVariants.{Idle, Holds, Dead, Retired}
-use Rattle.replay_core.specs.Plans.{items_of, deps_of}
-use Rattle.replay_core.specs.Runs.{Setup, names, state_after, next_state, slot_at, is_holding, verdict_by, verdicts_of, verdict_of, IsMet, InNoHands, IsWaiting, Allowed, GoesOn, IsRun}
+use Rattle.replay_core.specs.Plans.{items_of}
+use Rattle.replay_core.specs.Runs.{Setup, names, state_after, slot_at, is_holding, verdict_by, verdict_of, Allowed, GoesOn}
 use Rattle.replay_core.specs.Histories.{room_of, IsPlan}
 use Rattle.replay_core.specs.Boards.{slot_of, blame, judged, set_at, states_with, decide, allowance, Keeps, MarksFounded, FitsTogether}
 use Rattle.replay_core.proofs.Steps.{slot_at-nil, verdict_of-nil, slot_at-push, verdict_of-push, earlier, run_push}
 use Rattle.replay_core.specs.declared.counts.Counts.{Counts}
 use Rattle.replay_core.specs.Counting.{IsTally, AreSmall, with_event, with_decided}
-use Rattle.replay_core.proofs.Sound.{Sound, run_is_sound, is_holding_at}
+use Rattle.replay_core.proofs.Sound.{Sound, run_is_sound}
 use Rattle.replay_core.proofs.Tallying.{tally_event, tally_decided, tally_small}
 
 pub names-slot_of : (w : ℕ) (e : Event) → names w e ≡ elim (slot_of e) as (λ _. Bool) [ None ↦ false | Some v ↦ eqb v w ]

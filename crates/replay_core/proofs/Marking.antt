@@ -1,5 +1,5 @@
 -- Marking items until no more can be marked marks those that are founded.
-use Rattle.std.proofs.Common.{ℕ, zero, suc, ◌≡◌, ◌≢◌, ◌+◌, ◌<◌, ◌≤◌, Bool, true, false, List, [], ◌∷◌, ◌++◌, length, Option, Some, None, refl, ap, sym, ◌∙◌, subst, inl, inr, ◌⊎◌, arith, get_or, set, take, drop, replicate, get_or-set_same, get_or-set_other, Contains}
+use Rattle.std.proofs.Common.{ℕ, zero, suc, ◌≡◌, ◌≢◌, ◌+◌, ◌<◌, ◌≤◌, Bool, true, false, List, [], ◌++◌, length, Some, refl, ap, sym, ◌∙◌, subst, inl, inr, ◌⊎◌, arith, get_or, set, take, drop, replicate, get_or-set_same, get_or-set_other, Contains}
 use Rattle.std.specs.Prelude.{All, slice_get, sum_by}
 use Rattle.std.proofs.lemmas.List.{length-set, length-append, drop-append-le, get_or_append_left, drop_all, length-replicate, get_or-replicate, get_or_default, take_all}
 use Rattle.std.proofs.lemmas.Bool.{cases_eq, cases_Bool}
@@ -12,7 +12,7 @@ use Rattle.replay_core.specs.declared.founded.Search.{Search}
 use Rattle.replay_core.specs.Plans.{items_of, deps_of, is_item_of, is_founded_within, Founded, IsFoundedItem}
 use Rattle.replay_core.specs.Histories.{IsInRange, IsPlan}
 use Rattle.replay_core.specs.Boards.{MarksFounded}
-use Rattle.replay_core.specs.Queues.{AreUsers, IsUpTo, rows_of}
+use Rattle.replay_core.specs.Queues.{AreUsers, IsUpTo}
 use Rattle.replay_core.specs.Searching.{is_marked_in, is_marked_dep, IsMarked, IsClosed, MarkedFounded, StopsAt, SearchFits, IsSearch, GrowsFresh, WasLookedAt}
 use Rattle.replay_core.proofs.Ends.{founded_parts, not_founded_zero}
 use Rattle.replay_core.proofs.Grounds.{founded_closed, item_of_more}

@@ -1,7 +1,6 @@
 -- What is kept tells what can become of an item.
-use Rattle.std.proofs.Common.{ℕ, zero, suc, ◌≡◌, ◌≢◌, ◌+◌, ◌<◌, ◌≤◌, Bool, true, false, List, [], ◌∷◌, length, Option, Some, None, refl, ap, sym, ◌∙◌, subst, inl, inr, ◌⊎◌, arith, get_or, take, get_or-take}
+use Rattle.std.proofs.Common.{ℕ, zero, suc, ◌≡◌, ◌≢◌, ◌<◌, Bool, false, List, [], ◌∷◌, length, Option, Some, None, refl, ap, sym, ◌∙◌, subst, inl, inr, arith, get_or, take}
 use Rattle.std.specs.Prelude.{All, slice_get, IsSomeAnd}
-use Rattle.std.proofs.lemmas.List.{length-take-le, get_or_default}
 use Rattle.std.proofs.lemmas.Bool.{cases_order, cases_Bool}
 use Rattle.std.proofs.lemmas.List.Elements.{All-take}
 use Rattle.std.proofs.lemmas.Option.{get_or_from_slice_get, slice_get_within}
@@ -15,10 +14,10 @@ use Rattle.replay_core.specs.declared.event.Verdict.{Verdict}
 use Rattle.replay_core.specs.declared.event.Verdict.TheVariants.{Done}
 use Rattle.replay_core.specs.declared.event.SlotState.{SlotState}
 use Rattle.replay_core.specs.Plans.{items_of, deps_of, Founded}
-use Rattle.replay_core.specs.Runs.{Setup, verdict_of, IsMet, IsLost, IsRun}
+use Rattle.replay_core.specs.Runs.{Setup, verdict_of, IsMet, IsLost}
 use Rattle.replay_core.specs.Histories.{IsInRange}
 use Rattle.replay_core.specs.Queues.{HangsAt}
-use Rattle.replay_core.specs.Boards.{MetIn, LostIn, FirstUnmetIn, ProspectIn, HasMissAt, IsProspect, MarksFounded, Keeps, FitsTogether}
+use Rattle.replay_core.specs.Boards.{MetIn, LostIn, FirstUnmetIn, ProspectIn, HasMissAt, IsProspect, FitsTogether}
 use Rattle.replay_core.proofs.Grounds.{met_not_lost}
 
 none_unless : (o : Option Verdict) → ((o ≡ None → ⊥) → ⊥) → o ≡ None

@@ -1,27 +1,22 @@
 -- The queues after one more event, and after one more item was looked at.
-use Rattle.std.proofs.Common.{ℕ, zero, suc, ◌≡◌, ◌≢◌, ◌+◌, ◌<◌, ◌≤◌, Bool, true, false, not, cond, eqb, List, [], ◌∷◌, ◌++◌, length, Option, Some, None, refl, ap, sym, ◌∙◌, subst, inl, inr, ◌⊎◌, arith, get_or, set, take, drop, get_or-set_same, get_or-set_other, Contains}
-use Rattle.std.specs.Prelude.{All, slice_get, IsSomeAnd, count_by, sum_by}
+use Rattle.std.proofs.Common.{ℕ, zero, suc, ◌≡◌, ◌≢◌, ◌+◌, ◌<◌, ◌≤◌, Bool, true, false, not, cond, List, [], ◌∷◌, ◌++◌, length, Option, Some, None, refl, ap, sym, ◌∙◌, subst, inl, inr, ◌⊎◌, arith, get_or, set, take, drop, get_or-set_same, get_or-set_other, Contains}
+use Rattle.std.specs.Prelude.{All, count_by, sum_by}
 use Rattle.std.proofs.lemmas.List.{length-set, length_push, length-append, drop-append-le, drop_more, get_or_default, get_or_append_left}
-use Rattle.std.proofs.lemmas.Bool.{cases_eq, cases_Bool, eqb-true, eq-eqb, ne_eqb}
+use Rattle.std.proofs.lemmas.Bool.{cases_eq, eq-eqb, ne_eqb}
 use Rattle.std.proofs.lemmas.List.Elements.{All-append, All-set, All-push, All-nil, Contains-append_left, Contains-append_right, Contains-push, All-weaker}
 use Rattle.std.proofs.lemmas.List.Sums.{sum_by-set}
-use Rattle.replay_core.specs.declared.plan.Plan.{Plan}
-use Rattle.replay_core.specs.declared.plan.Dep.{Dep}
-use Rattle.replay_core.specs.declared.plan.Dep.TheVariants.{Item, Absent}
 use Rattle.replay_core.specs.declared.event.Event.{Event}
 use Rattle.replay_core.specs.declared.event.Event.TheVariants.{Start, Reply, Death, Restart, Retire, Miss}
 use Rattle.replay_core.specs.declared.event.Verdict.{Verdict}
 use Rattle.replay_core.specs.declared.event.Verdict.TheVariants.{Done, Blamed, Missing}
-use Rattle.replay_core.specs.declared.event.SlotState.{SlotState}
 use Rattle.replay_core.specs.declared.event.SlotState.TheVariants.{Idle, Holds, Dead, Retired}
-use Rattle.replay_core.specs.Plans.{items_of, deps_of, Founded}
-use Rattle.replay_core.specs.Runs.{Setup, names, next_state, slot_at, is_holding, verdict_by, verdict_of, IsMet, IsLost, IsWaiting, Allowed, IsRun}
+use Rattle.replay_core.specs.Plans.{items_of, deps_of}
+use Rattle.replay_core.specs.Runs.{Setup, slot_at, is_holding, verdict_by, verdict_of, IsMet, IsWaiting, Allowed}
 use Rattle.replay_core.specs.Queues.{HangsAt, QueuesFit, QueuesKept, DecidesOnly, FreshGrows, LookedAt, rows}
 use Rattle.replay_core.specs.declared.queues.Queues.{Queues}
 use Rattle.replay_core.specs.Histories.{History, with_events}
 use Rattle.std.specs.Vec.{vec_capacity}
 use Rattle.replay_core.proofs.Steps.{run_push, slot_at-push, verdict_of-push, earlier, all_met_stays, verdict_stays}
-use Rattle.replay_core.proofs.Sound.{Sound, run_is_sound, holding_is}
 
 earlier_none : (o : Option Verdict) → earlier o None ≡ o
 earlier_none None = refl

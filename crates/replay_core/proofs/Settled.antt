@@ -1,30 +1,27 @@
 -- Where nothing is left to look at.
-use Rattle.std.proofs.Common.{ℕ, zero, suc, ◌≡◌, ◌≢◌, ◌+◌, ◌<◌, ◌≤◌, Bool, true, false, not, cond, eqb, List, [], ◌∷◌, ◌++◌, length, Option, Some, None, refl, ap, sym, ◌∙◌, subst, inl, inr, ◌⊎◌, arith, get_or, set, take, drop, Contains}
+use Rattle.std.proofs.Common.{ℕ, ◌≡◌, ◌≢◌, ◌+◌, ◌<◌, false, cond, List, [], ◌∷◌, length, Option, Some, None, refl, ap, sym, ◌∙◌, subst, inl, inr, ◌⊎◌, arith, get_or, take, drop, Contains}
 use Rattle.std.specs.Prelude.{All, slice_get, IsSomeAnd}
 use Rattle.std.proofs.lemmas.List.{drop_all}
-use Rattle.std.proofs.lemmas.Bool.{cases_eq, cases_Bool, cases_order, cases_lt, eq-eqb, ne_eqb}
-use Rattle.std.proofs.lemmas.Option.{slice_get_within}
+use Rattle.std.proofs.lemmas.Bool.{cases_Bool, cases_order, cases_lt, eq-eqb, ne_eqb}
 use Rattle.replay_core.specs.declared.plan.Dep.{Dep}
-use Rattle.replay_core.specs.declared.plan.Dep.TheVariants.{Item, Absent}
+use Rattle.replay_core.specs.declared.plan.Dep.TheVariants.{Item}
 use Rattle.replay_core.specs.declared.event.Event.{Event}
-use Rattle.replay_core.specs.declared.event.Event.TheVariants.{Start, Reply, Death, Restart, Retire, Miss}
+use Rattle.replay_core.specs.declared.event.Event.TheVariants.{Start, Reply, Miss}
 use Rattle.replay_core.specs.declared.event.Verdict.{Verdict}
-use Rattle.replay_core.specs.declared.event.Verdict.TheVariants.{Done, Blamed, Missing}
-use Rattle.replay_core.specs.declared.event.SlotState.TheVariants.{Idle, Holds, Dead, Retired}
+use Rattle.replay_core.specs.declared.event.Verdict.TheVariants.{Done}
+use Rattle.replay_core.specs.declared.event.SlotState.TheVariants.{Idle, Holds, Dead}
 use Rattle.replay_core.specs.declared.queues.Queues.{Queues}
-use Rattle.replay_core.specs.declared.answer.Next.{Next}
-use Rattle.replay_core.specs.declared.answer.Next.TheVariants.{Finished, Work, Idle as Waits}
-use Rattle.replay_core.specs.Plans.{items_of, deps_of, Founded}
+use Rattle.replay_core.specs.Plans.{items_of, deps_of}
 use Rattle.replay_core.specs.Runs.{Setup, slot_at, verdict_by, verdict_of, IsMet, IsLost, IsWaiting, Allowed, NoStart, NoMiss, SomeHeld, AllDecided, IsRun}
 use Rattle.replay_core.specs.Histories.{History, with_events}
-use Rattle.replay_core.specs.Turns.{AddsMisses, SomeUndecided, TakesTurn}
-use Rattle.replay_core.specs.Queues.{HangsAt, QueuesFit, QueuesKept, DecidesOnly}
+use Rattle.replay_core.specs.Turns.{AddsMisses, SomeUndecided}
+use Rattle.replay_core.specs.Queues.{HangsAt, QueuesKept, DecidesOnly}
 use Rattle.replay_core.proofs.Steps.{run_push, slot_at-push}
 use Rattle.replay_core.proofs.Sound.{run_is_sound}
 use Rattle.replay_core.proofs.Ends.{stuck_is_done}
 use Rattle.replay_core.proofs.Grounds.{met_not_lost}
 use Rattle.replay_core.proofs.Prospects.{All-at, All-at_front}
-use Rattle.replay_core.proofs.Turning.{slot_after_misses, slots_after_misses, no_miss_after_start, undecided_after_start}
+use Rattle.replay_core.proofs.Turning.{slot_after_misses, slots_after_misses}
 use Rattle.replay_core.proofs.Queueing.{contains_later, quiet_push}
 
 none_contained : {X : Type 0} (xs : List X) (n : ℕ) (x : X) → n ≡ length xs → Contains (drop n xs) x → ⊥

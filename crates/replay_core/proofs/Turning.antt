@@ -1,8 +1,8 @@
 -- What a slot that asks for work is told.
-use Rattle.std.proofs.Common.{ℕ, zero, suc, ◌≡◌, ◌≢◌, ◌+◌, ◌<◌, ◌≤◌, Bool, true, false, cond, eqb, List, [], ◌∷◌, ◌++◌, length, Option, Some, None, refl, ap, sym, ◌∙◌, subst, inl, inr, ◌⊎◌, arith, append_assoc, get_or, take}
+use Rattle.std.proofs.Common.{ℕ, zero, suc, ◌≡◌, ◌≢◌, ◌<◌, Bool, cond, eqb, List, [], ◌∷◌, ◌++◌, length, Option, Some, None, refl, ap, sym, ◌∙◌, subst, inl, inr, ◌⊎◌, arith, append_assoc, get_or}
 use Rattle.std.specs.Prelude.{All, slice_get, IsSomeAnd}
 use Rattle.std.proofs.lemmas.List.{append-nil}
-use Rattle.std.proofs.lemmas.Bool.{cases_Bool, cases_lt, eqb-true}
+use Rattle.std.proofs.lemmas.Bool.{cases_Bool, eqb-true}
 use Rattle.std.proofs.lemmas.List.Elements.{All-nil, All-head, All-tail, All-push, All-append}
 use Rattle.replay_core.specs.declared.plan.Plan.{Plan}
 use Rattle.replay_core.specs.declared.plan.Dep.{Dep}
@@ -13,13 +13,11 @@ use Rattle.replay_core.specs.declared.event.Verdict.{Verdict}
 use Rattle.replay_core.specs.declared.event.Verdict.TheVariants.{Done}
 use Rattle.replay_core.specs.declared.event.SlotState.{SlotState}
 use Rattle.replay_core.specs.declared.event.SlotState.TheVariants.{Idle, Holds, Dead, Retired}
-use Rattle.replay_core.specs.declared.answer.Next.{Next}
-use Rattle.replay_core.specs.declared.answer.Next.TheVariants.{Finished, Work, Idle as Waits}
-use Rattle.replay_core.specs.Plans.{items_of, deps_of, Founded}
-use Rattle.replay_core.specs.Runs.{Setup, next_state, slot_at, verdict_of, verdict_by, IsMet, IsLost, IsWaiting, Allowed, GoesOn, NoStart, NoMiss, SomeHeld, AllDecided, IsRun}
+use Rattle.replay_core.specs.Plans.{deps_of}
+use Rattle.replay_core.specs.Runs.{Setup, next_state, slot_at, verdict_of, IsMet, IsLost, Allowed, GoesOn, NoStart, NoMiss, SomeHeld, AllDecided, IsRun}
 use Rattle.replay_core.specs.Histories.{History, with_events, room_of}
 use Rattle.replay_core.specs.Boards.{Keeps, FitsTogether}
-use Rattle.replay_core.specs.Turns.{IsMiss, AddsMisses, SomeUndecided, Told, TakesTurn}
+use Rattle.replay_core.specs.Turns.{IsMiss, AddsMisses, SomeUndecided}
 use Rattle.replay_core.proofs.Steps.{GoesOn-push, GoesOn-append, slot_at-push, verdict_of-push, earlier}
 use Rattle.replay_core.proofs.Sound.{run_is_sound}
 use Rattle.replay_core.proofs.Keeping.{event_fits, inside_unless_idle}

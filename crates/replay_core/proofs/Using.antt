@@ -1,15 +1,15 @@
 -- The users of each item.
-use Rattle.std.proofs.Common.{ℕ, zero, suc, ◌≡◌, ◌≢◌, ◌+◌, ◌<◌, ◌≤◌, List, [], ◌∷◌, ◌++◌, length, Option, Some, None, refl, ap, sym, ◌∙◌, subst, inl, inr, ◌⊎◌, arith, get_or, set, take, drop, replicate, Bool, true, false, not, ◌*◌, ◌^◌, get_or-set_same, get_or-set_other, Contains}
-use Rattle.std.specs.Prelude.{slice_get, sum_by, count_by, All, Vec}
+use Rattle.std.proofs.Common.{ℕ, zero, suc, ◌≡◌, ◌+◌, ◌<◌, ◌≤◌, List, [], ◌∷◌, ◌++◌, length, Some, None, refl, ap, sym, ◌∙◌, subst, inl, inr, ◌⊎◌, arith, get_or, set, take, replicate, Bool, true, false, not, ◌^◌, get_or-set_same, get_or-set_other, Contains}
+use Rattle.std.specs.Prelude.{slice_get, sum_by, All, Vec}
 use Rattle.replay_core.specs.declared.plan.Plan.{Plan}
 use Rattle.replay_core.specs.Plans.{items_of, deps_of}
-use Rattle.replay_core.specs.Runs.{Setup, IsMet, IsWaiting, GoesOn}
-use Rattle.std.proofs.lemmas.List.{length-set, length-take-le, take_more, length_push, get_or_default, get_or-replicate, length-replicate, get_or_past, get_or_append_left, get_or_push}
+use Rattle.replay_core.specs.Runs.{IsMet, GoesOn}
+use Rattle.std.proofs.lemmas.List.{length-set, take_more, length_push, get_or_default, get_or-replicate, length-replicate, get_or_past, get_or_append_left, get_or_push}
 use Rattle.std.proofs.lemmas.Bool.{cases_eq, cases_lt}
 use Rattle.std.proofs.lemmas.List.Elements.{Contains-append_left, Contains-push, Contains-push_cases, Contains-get_or, All-replicate, All-nil, All-from_get_or}
 use Rattle.std.proofs.lemmas.List.Sums.{sum_by-set, sum_by-le, count_by-le-length}
 use Rattle.replay_core.specs.declared.plan.Dep.{Dep}
-use Rattle.replay_core.specs.declared.plan.Dep.TheVariants.{Item, Absent}
+use Rattle.replay_core.specs.declared.plan.Dep.TheVariants.{Item}
 use Rattle.replay_core.specs.Queues.{AddsUsers, AreUsers, IsUpTo, QueuesFit, QueuesKept, rows_of}
 use Rattle.replay_core.specs.declared.queues.Queues.{Queues}
 use Rattle.replay_core.specs.Histories.{at_first}

@@ -1,5 +1,5 @@
 -- From what contracts see of a scheduler to what it keeps.
-use Rattle.std.proofs.Common.{ℕ, ◌≡◌, ◌<◌, ◌⊎◌, List, length, Bool, Option, refl, sym, subst, ap, ◌∙◌, arith, get_or, true, false, None, Some, [], ◌↔◌, IsTrue, not, Contains}
+use Rattle.std.proofs.Common.{ℕ, ◌≡◌, ◌<◌, List, length, Bool, Option, refl, sym, subst, ap, ◌∙◌, arith, get_or, true, false, None, Some, [], ◌↔◌, IsTrue, not, Contains}
 use Rattle.std.specs.Prelude.{is_some}
 use Rattle.replay_core.specs.declared.plan.Dep.{Dep}
 use Rattle.replay_core.specs.declared.prospect.Prospect.{Prospect}
@@ -14,7 +14,7 @@ use Rattle.replay_core.specs.declared.event.SlotState.TheVariants.{Idle, Holds, 
 use Rattle.replay_core.specs.declared.counts.Counts.{Counts}
 use Rattle.std.specs.Prelude.{nat_eq, ◌+◌, ◌≤◌}
 use Rattle.std.proofs.lemmas.Bool.{eqb-true, eq-eqb}
-use Rattle.replay_core.specs.Runs.{Setup, slot_at, verdict_of, verdict_list, AllDecided, IsWaiting}
+use Rattle.replay_core.specs.Runs.{Setup, slot_at, verdict_list, AllDecided, IsWaiting}
 use Rattle.replay_core.specs.Histories.{History}
 use Rattle.replay_core.specs.Boards.{Keeps, FitsTogether, ProspectIn, IsProspect}
 use Rattle.replay_core.specs.Counting.{IsTally, IsCountOf}

@@ -1,5 +1,5 @@
 -- What the scheduler keeps beside the events: the state of each slot and the verdict of each item.
-use Rattle.std.specs.Prelude.{ℕ, ◌≡◌, ◌≢◌, ◌⊎◌, All, IsSomeAnd, slice_get, take, ◌+◌, ◌*◌, ◌<◌, ◌≤◌, Bool, true, false, List, ◌∷◌, ◌++◌, [], length, Option, Some, None, is_none, slice_index_or, slice_set, count_by, sum_by, not, is_some}
+use Rattle.std.specs.Prelude.{ℕ, ◌≡◌, ◌≢◌, ◌⊎◌, All, IsSomeAnd, slice_get, take, ◌+◌, ◌*◌, ◌<◌, ◌≤◌, Bool, true, false, List, length, Option, Some, None, is_none, slice_index_or, slice_set, count_by, sum_by}
 use Rattle.replay_core.specs.declared.plan.Plan.{Plan}
 use Rattle.replay_core.specs.declared.plan.Dep.{Dep}
 use Rattle.replay_core.specs.declared.plan.Dep.TheVariants.{Item, Absent}

@@ -1,11 +1,11 @@
 -- What the scheduler keeps so that no call searches through all items.
-use Rattle.std.specs.Prelude.{ℕ, ◌≡◌, ◌≢◌, ◌++◌, ◌+◌, ◌*◌, ◌^◌, ◌<◌, ◌≤◌, ◌⊎◌, All, Contains, Bool, true, false, not, List, [], length, drop, take, slice_get, slice_index_or, Option, Some, None, count_by, sum_by, map, vec_capacity, Vec}
+use Rattle.std.specs.Prelude.{ℕ, ◌≡◌, ◌≢◌, ◌++◌, ◌+◌, ◌*◌, ◌^◌, ◌<◌, ◌≤◌, ◌⊎◌, All, Contains, Bool, true, false, not, List, [], length, drop, take, slice_get, slice_index_or, Some, None, count_by, sum_by, map, vec_capacity, Vec}
 use Rattle.std.specs.Global.{Global}
 use Rattle.replay_core.specs.declared.queues.Queues.{Queues}
 use Rattle.replay_core.specs.Histories.{History}
 use Rattle.replay_core.specs.declared.plan.Plan.{Plan}
 use Rattle.replay_core.specs.declared.plan.Dep.{Dep}
-use Rattle.replay_core.specs.declared.plan.Dep.TheVariants.{Item, Absent}
+use Rattle.replay_core.specs.declared.plan.Dep.TheVariants.{Item}
 use Rattle.replay_core.specs.declared.event.Event.{Event}
 use Rattle.replay_core.specs.declared.event.Verdict.{Verdict}
 use Rattle.replay_core.specs.Plans.{items_of, deps_of, Founded}

@@ -3,7 +3,7 @@ use Rattle.std.specs.Prelude.{ℕ, ◌≡◌, ◌++◌, ◌+◌, ◌<◌, ◌≤
 use Rattle.replay_core.specs.declared.founded.Search.{Search}
 use Rattle.replay_core.specs.declared.plan.Plan.{Plan}
 use Rattle.replay_core.specs.declared.plan.Dep.{Dep}
-use Rattle.replay_core.specs.declared.plan.Dep.TheVariants.{Item, Absent}
+use Rattle.replay_core.specs.declared.plan.Dep.TheVariants.{Item}
 use Rattle.replay_core.specs.Plans.{items_of, deps_of, is_item_of, Founded}
 use Rattle.replay_core.specs.Queues.{rows_of}
 

@@ -1,8 +1,7 @@
-use Rattle.std.proofs.Common.{ℕ, List, [], ◌++◌, length, get_or, set, ◌≡◌, ◌<◌, ◌+◌, ap, sym, ◌∙◌, arith}
-use Rattle.std.specs.Prelude.{sum_by, Vec}
+use Rattle.std.proofs.Common.{ℕ, [], ◌++◌, length, get_or, set, ◌≡◌, ◌<◌, ap, sym, ◌∙◌, arith}
+use Rattle.std.specs.Prelude.{Vec}
 use Rattle.std.specs.Global.{Global}
-use Rattle.std.proofs.lemmas.List.{map-set, get_or-map, length-map, length-append}
-use Rattle.std.proofs.lemmas.List.Sums.{sum_by-set}
+use Rattle.std.proofs.lemmas.List.{map-set, get_or-map, length-map}
 use Rattle.replay_core.specs.Queues.{rows_of}
 use Rattle.replay_core.proofs.Marking.{looks_same, mark_written}
 use Rattle.replay_core.proofs.founded.mark.Goals as goal

@@ -1,5 +1,5 @@
 use Rattle.std.proofs.Common.{ℕ, ◌<◌}
-use Rattle.replay_core.specs.declared.event.Event.TheVariants.{Start, Miss}
+use Rattle.replay_core.specs.declared.event.Event.TheVariants.{Miss}
 use Rattle.replay_core.specs.Runs.{Allowed}
 use Rattle.replay_core.proofs.plain.missable.Given as goal
 

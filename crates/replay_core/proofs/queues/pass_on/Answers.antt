@@ -1,5 +1,5 @@
-use Rattle.std.proofs.Common.{ℕ, List, [], length, get_or, set, ◌≡◌, ◌≤◌, ◌<◌, ◌+◌, ap, sym, ◌∙◌, arith}
-use Rattle.std.specs.Prelude.{map, sum_by, Vec}
+use Rattle.std.proofs.Common.{ℕ, [], length, get_or, set, ◌≡◌, ◌≤◌, ◌<◌, ◌+◌, ap, sym, ◌∙◌, arith}
+use Rattle.std.specs.Prelude.{sum_by, Vec}
 use Rattle.std.specs.Global.{Global}
 use Rattle.std.specs.Vec.{vec_len, vec_capacity}
 use Rattle.std.proofs.lemmas.List.{map-set, get_or-map, length-map}

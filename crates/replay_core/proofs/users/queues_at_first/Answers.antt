@@ -1,7 +1,6 @@
-use Rattle.std.proofs.Common.{rules, arith, ◌≡◌, ◌≤◌, ap, subst, sym, ◌∙◌, refl, replicate, length, false, ℕ}
+use Rattle.std.proofs.Common.{arith, ◌≡◌, ap, subst, ◌∙◌, refl, replicate, length, false, ℕ}
 use Rattle.std.specs.Prelude.{sum_by, Vec}
 use Rattle.std.specs.Global.{Global}
-use Rattle.std.specs.Vec.{vec_capacity}
 use Rattle.replay_core.specs.Plans.{items_of}
 use Rattle.replay_core.specs.Queues.{IsUpTo}
 use Rattle.replay_core.proofs.Using.{kept_at_first}

@@ -1,10 +1,10 @@
-use Rattle.std.proofs.Common.{ℕ, List, ◌≡◌, ◌∷◌, [], ◌++◌, ◌<◌, ◌≤◌, Some, length, sym, subst, ap, ◌∙◌, arith, refl}
+use Rattle.std.proofs.Common.{◌≡◌, ◌<◌, ◌≤◌, length, sym, subst, ap, ◌∙◌, arith}
 use Rattle.std.specs.Vec.{vec_len, vec_capacity}
-use Rattle.replay_core.specs.Runs.{Allowed, Setup}
-use Rattle.replay_core.specs.Histories.{History, with_events}
+use Rattle.replay_core.specs.Runs.{Allowed}
+use Rattle.replay_core.specs.Histories.{History}
 use Rattle.replay_core.specs.Boards.{judged, states_with, decide}
 use Rattle.replay_core.specs.Counting.{with_decided, with_event}
-use Rattle.replay_core.proofs.Keeping.{written, fits_push, tally_push, counts_small, judged_inside, event_fits, length-states_with, length-decide}
+use Rattle.replay_core.proofs.Keeping.{written, fits_push, tally_push, judged_inside, event_fits, length-states_with, length-decide}
 use Rattle.replay_core.proofs.record.Record.add.Goals as goal
 use Rattle.replay_core.proofs.record.Record.add.Goals.{After-as_mut_slice}
 

@@ -1,4 +1,4 @@
-use Rattle.std.proofs.Common.{rules, None, ◌≡◌}
+use Rattle.std.proofs.Common.{rules}
 use Rattle.replay_core.proofs.Keeping.{fits_at_first}
 use Rattle.replay_core.proofs.Tallying.{tally_first}
 use Rattle.replay_core.proofs.record.Record.new.Goals as goal

@@ -1,7 +1,6 @@
 use Rattle.std.proofs.Common.{◌≡◌, ◌<◌, subst, sym, ap, ◌∙◌, refl}
 use Rattle.replay_core.specs.declared.event.Event.TheVariants.{Start}
 use Rattle.replay_core.specs.declared.event.SlotState.TheVariants.{Idle}
-use Rattle.replay_core.specs.declared.answer.Next.TheVariants.{Finished, Idle as Waits}
 use Rattle.replay_core.specs.Runs.{NoMiss, AllDecided, Allowed, slot_at}
 use Rattle.replay_core.specs.Histories.{History}
 use Rattle.replay_core.specs.Turns.{state_told, AddsMisses, TakesTurn}

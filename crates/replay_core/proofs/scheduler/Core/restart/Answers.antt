@@ -1,4 +1,4 @@
-use Rattle.std.proofs.Common.{refl, sym, subst, ap, ◌∙◌, ◌≡◌}
+use Rattle.std.proofs.Common.{refl, ap, ◌∙◌, ◌≡◌}
 use Rattle.replay_core.specs.declared.event.Event.TheVariants.{Restart}
 use Rattle.replay_core.specs.declared.event.SlotState.TheVariants.{Dead}
 use Rattle.replay_core.specs.Runs.{slot_at, Allowed}
