@@ -2,3 +2,5 @@ pub mod Reading
 pub mod Refusal
 pub mod Found
 pub mod OnlyRead
+pub mod Kept
+pub mod Pushed
