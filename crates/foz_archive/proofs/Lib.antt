@@ -7,3 +7,4 @@ pub mod ReadOnly
 pub mod Held
 pub mod Commit
 pub mod Pushed
+pub mod Opened

@@ -4,3 +4,4 @@ pub mod Found
 pub mod OnlyRead
 pub mod Kept
 pub mod Pushed
+pub mod Opened

@@ -4,12 +4,14 @@
 mod archive;
 mod header;
 mod laws;
+mod opening;
 mod push;
 mod read;
 mod refusal;
 mod scanned;
 
 pub use archive::Archive;
+pub use opening::{OpenCause, OpenRefused};
 pub use laws::readings_are_unique;
 pub use push::{PushError, fits};
 pub use read::read_disk;
