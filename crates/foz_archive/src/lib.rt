@@ -11,9 +11,12 @@ mod refusal;
 mod scanned;
 
 pub use archive::Archive;
+pub use laws::{pushed_entries_are_undamaged, readings_are_unique};
 pub use opening::{OpenCause, OpenRefused};
-pub use laws::readings_are_unique;
 pub use push::{PushError, fits};
 pub use read::read_disk;
 pub use refusal::{ArchiveError, ReadError, ScanError};
 pub use scanned::{Scanned, scan};
+
+#[cfg(test)]
+mod tests;
