@@ -4,3 +4,7 @@ pub mod FirstBytes
 pub mod Fronts
 pub mod Unique
 pub mod ReadOnly
+pub mod Held
+pub mod Commit
+pub mod Pushed
+pub mod Opened
