@@ -49,6 +49,18 @@ impl MemShelf {
         }
     }
 
+    /// The disk under this name, where there is one and it isn't out.
+    pub fn get(&self, name: &str) -> Option<&MemDisk>
+        ensures some { IfSome result (λ disk. ⟦<MemShelf as Shelf>⟧.places self.now name.now ≡ stored disk.now) }
+        ensures none { IfNone result ((disk : MemDisk) → ⟦<MemShelf as Shelf>⟧.places self.now name.now ≢ stored disk) }
+    {
+        if self.away.has(name) {
+            return None;
+        }
+        let at = self.find(name)?;
+        Some(&self.files[at].1)
+    }
+
     // The place in the list of the first file of this name.
     fn find(&self, name: &str) -> Option<usize>
         ensures at { result ≡ position (λ file. spells string_bytes name.now file.0) self.now.files.items }
