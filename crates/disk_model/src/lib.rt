@@ -20,6 +20,7 @@ mod std_streams;
 mod synced;
 
 pub use call::Call;
+pub use call_count::Listed;
 pub use disk::Disk;
 pub use fault::Failed;
 pub use file_disk::FileDisk;
