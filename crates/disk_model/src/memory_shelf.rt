@@ -30,12 +30,7 @@ pub struct MemShelf {
 impl MemShelf {
     /// A shelf with these files. Of its calls of `take` those with the listed numbers fail, counted from 0, but for one that
     /// is to answer that there is no such file. A disk that it makes has this room and this number of calls.
-    pub fn new(
-        files: Vec<(String, MemDisk)>,
-        room: u64,
-        calls: u64,
-        failing: Vec<u64>,
-    ) -> MemShelf
+    pub fn new(files: Vec<(String, MemDisk)>, room: u64, calls: u64, failing: Vec<u64>) -> MemShelf
         ensures places { ⟦<MemShelf as Shelf>⟧.places result ≡ file_in string_bytes files.items }
         ensures here { (name : List ℕ) → ⟦<MemShelf as Shelf>⟧.places result name ≢ out }
         ensures faults { ⟦<MemShelf as Shelf>⟧.faults result ≡ 0 }

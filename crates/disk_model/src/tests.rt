@@ -3,8 +3,8 @@ ghost use Rattle.disk_model.specs.Disk.{NothingPending, latest};
 ghost use Rattle.disk_model.specs.Place.{out};
 
 use crate::{
-    Call, Disk, Failed, FileDisk, FolderShelf, MemDisk, MemShelf, MemSink, MemSource, Mode, RamDisk, Shelf, Sink, Source, StdSink, StdSource,
-    TakeError, cut_synced, write_synced,
+    Call, Disk, Failed, FileDisk, FolderShelf, MemDisk, MemShelf, MemSink, MemSource, Mode,
+    RamDisk, Shelf, Sink, Source, StdSink, StdSource, TakeError, cut_synced, write_synced,
 };
 use std::fs;
 use std::test::Fail;
@@ -77,7 +77,16 @@ fn a_synced_change_stays(rt: HostRuntime) -> Result<(), Fail> {
     assert_eq!(rt; write_synced(&mut disk, 3, &[4, 5]), Ok(()));
     assert_eq!(rt; cut_synced(&mut disk, 4), Ok(()));
     let (calls, pieces) = disk.record();
-    assert_eq!(rt; calls, [Call::Write { at: 3, len: 2 }, Call::Sync, Call::Cut { len: 4 }, Call::Sync].as_slice());
+    assert_eq!(rt;
+        calls,
+        [
+            Call::Write { at: 3, len: 2 },
+            Call::Sync,
+            Call::Cut { len: 4 },
+            Call::Sync
+        ]
+        .as_slice()
+    );
     assert_eq!(rt; pieces, [4, 5].as_slice());
     let mut after = disk.crash(48, 0);
     let mut bytes = [0; 4];
@@ -173,7 +182,12 @@ fn a_folder_gives_its_files(rt: HostRuntime) -> Result<(), Fail> {
     fs::create_dir(&rt, FOLDER)?;
     let mut shelf = FolderShelf::new(rt);
     assert!(rt; matches!(shelf.take(alloc, FILE, Mode::Read), Err(TakeError::Absent)));
-    assert!(rt; matches!(shelf.take(alloc, "disk_model_test/b/a.foz", Mode::Write), Err(TakeError::Failed)));
+    assert!(rt;
+        matches!(
+            shelf.take(alloc, "disk_model_test/b/a.foz", Mode::Write),
+            Err(TakeError::Failed)
+        )
+    );
     let Ok(mut disk) = shelf.take(alloc, FILE, Mode::Write) else {
         return Err(Fail::new("no file was made"));
     };
