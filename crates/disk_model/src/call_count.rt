@@ -1,9 +1,18 @@
 // The calls of an object in memory, some of which are to fail.
-ghost use Rattle.std.specs.Prelude.{◌≡◌, ◌≤◌, IsTrue, ◌↔◌};
+ghost use Rattle.std.specs.Prelude.{◌≡◌, ◌≤◌, IsTrue, ◌↔◌, List, ℕ};
 ghost use Rattle.disk_model.specs.Faults.{Rose};
 ghost use Rattle.disk_model.specs.Listed.{IsListed, next_number};
 
 use crate::Failed;
+
+/// An object in memory that counts its calls from 0 on, and of which those with some numbers fail.
+pub trait Listed {
+    /// The number of the next call.
+    ghost next: { Self → ℕ };
+
+    /// The numbers of the calls that fail.
+    ghost failing: { Self → List ℕ };
+}
 
 #[derive(Drop)]
 pub(crate) struct CallCount {

@@ -41,7 +41,11 @@ impl<R: Files<File = File> + Drop> FolderShelf<R> {
     // An empty file. Its folder is synced, so that after a crash the file is still there.
     fn create(&self, name: &str) -> io::Result<File> {
         let mut options = OpenOptions::new();
-        let file = options.read(true).write(true).create(true).open(&self.rt, name)?;
+        let file = options
+            .read(true)
+            .write(true)
+            .create(true)
+            .open(&self.rt, name)?;
         let folder = match Path::new(name).parent() {
             Some(folder) if !folder.as_str().is_empty() => folder.as_str(),
             _ => ".",

@@ -1,6 +1,6 @@
 // A disk in memory. It keeps what it held at first and each call since, so that it can tell what a crash might have
 // left at each moment.
-ghost use Rattle.std.specs.Prelude.{◌≡◌, ◌+◌, ◌<◌, ◌≤◌, [], ◌∷◌, ◌++◌, length, min, max, ℕ, slice_index, vec_len, vec_capacity, true, false, IfOk, IsErr, IsTrue, ◌↔◌};
+ghost use Rattle.std.specs.Prelude.{◌≡◌, ◌+◌, ◌<◌, ◌≤◌, [], ◌∷◌, ◌++◌, length, min, max, ℕ, take, slice_index, vec_len, vec_capacity, true, false, IfOk, IsErr, IsTrue, ◌↔◌};
 ghost use Rattle.disk_model.specs.Disk.{InRange, InSome, IsImage, NothingPending, Rests, Syncs, fresh, overwritten, latest};
 ghost use Rattle.disk_model.specs.Faults.{Rose, HasCause};
 ghost use Rattle.disk_model.specs.Memory.{FailsAt, after_calls, bytes_written, history_of, state_of};
@@ -135,6 +135,22 @@ impl MemDisk {
             failing,
             faults: 0,
         }
+    }
+
+    /// What reads give.
+    pub fn content(&self) -> &[u8]
+        ensures { result.now ≡ ⟦<MemDisk as Disk>⟧.content self.now }
+    {
+        &self.bytes
+    }
+
+    /// Its calls so far, without those past its number of calls, and the bytes of all its writes in a row. They say what
+    /// its history is.
+    pub fn record(&self) -> (&[Call], &[u8])
+        ensures { (moment : ℕ) → (⟦<MemDisk as Disk>⟧.history self.now).at moment
+            ≡ after_calls ((⟦<MemDisk as Disk>⟧.history self.now).at 0) (take moment result.0.now) result.1.now }
+    {
+        (&self.calls, &self.pieces)
     }
 
     // The next call is to fail.

@@ -30,12 +30,7 @@ pub struct MemShelf {
 impl MemShelf {
     /// A shelf with these files. Of its calls of `take` those with the listed numbers fail, counted from 0, but for one that
     /// is to answer that there is no such file. A disk that it makes has this room and this number of calls.
-    pub fn new(
-        files: Vec<(String, MemDisk)>,
-        room: u64,
-        calls: u64,
-        failing: Vec<u64>,
-    ) -> MemShelf
+    pub fn new(files: Vec<(String, MemDisk)>, room: u64, calls: u64, failing: Vec<u64>) -> MemShelf
         ensures places { ⟦<MemShelf as Shelf>⟧.places result ≡ file_in string_bytes files.items }
         ensures here { (name : List ℕ) → ⟦<MemShelf as Shelf>⟧.places result name ≢ out }
         ensures faults { ⟦<MemShelf as Shelf>⟧.faults result ≡ 0 }
@@ -47,6 +42,18 @@ impl MemShelf {
             calls,
             takes: CallCount::new(failing),
         }
+    }
+
+    /// The disk under this name, where there is one and it isn't out.
+    pub fn get(&self, name: &str) -> Option<&MemDisk>
+        ensures some { IfSome result (λ disk. ⟦<MemShelf as Shelf>⟧.places self.now name.now ≡ stored disk.now) }
+        ensures none { IfNone result ((disk : MemDisk) → ⟦<MemShelf as Shelf>⟧.places self.now name.now ≢ stored disk) }
+    {
+        if self.away.has(name) {
+            return None;
+        }
+        let at = self.find(name)?;
+        Some(&self.files[at].1)
     }
 
     // The place in the list of the first file of this name.

@@ -1,7 +1,9 @@
 // A sink in memory.
-ghost use Rattle.std.specs.Prelude.{◌≡◌, ◌≤◌, [], length, IfOk, vec_capacity};
+ghost use Rattle.std.specs.Prelude.{◌≡◌, ◌<◌, ◌≤◌, ◌++◌, [], length, take, IfOk, OnErr, IsErr, vec_capacity};
+ghost use Rattle.disk_model.specs.Faults.{HasCause};
+ghost use Rattle.disk_model.specs.Listed.{IsListed, next_number};
 
-use crate::call_count::CallCount;
+use crate::call_count::{CallCount, Listed};
 use crate::memory_disk::extend_within;
 use crate::{Failed, Sink};
 use std::alloc::{AllocError, Global};
@@ -30,6 +32,8 @@ impl MemSink {
         requires moves { 1 ≤ step }
         ensures written { IfOk result (λ sink. ⟦<MemSink as Sink>⟧.written sink ≡ []) }
         ensures faults { IfOk result (λ sink. ⟦<MemSink as Sink>⟧.faults sink ≡ 0) }
+        ensures next { IfOk result (λ sink. ⟦<MemSink as Listed>⟧.next sink ≡ 0) }
+        ensures listed { IfOk result (λ sink. ⟦<MemSink as Listed>⟧.failing sink ≡ failing.items) }
     {
         Ok(MemSink {
             written: Vec::with_capacity(alloc, room)?,
@@ -47,6 +51,12 @@ impl MemSink {
     }
 }
 
+impl Listed for MemSink {
+    ghost next = { λ sink. sink.calls.made };
+
+    ghost failing = { λ sink. sink.calls.failing.items };
+}
+
 impl Sink for MemSink {
     ghost tells = { Unit {0} };
 
@@ -54,7 +64,16 @@ impl Sink for MemSink {
 
     ghost faults = { λ sink. sink.calls.faults };
 
-    fn write(&mut self, piece: &[u8]) -> Result<usize, Failed> {
+    fn write(&mut self, piece: &[u8]) -> Result<usize, Failed>
+        ensures bound { IfOk result (λ n. n ≤ length piece.now) }
+        ensures progress { IfOk result (λ n. 0 < length piece.now → 0 < n) }
+        ensures taken { IfOk result (λ n. ⟦<MemSink as Sink>⟧.written self.new ≡ ⟦<MemSink as Sink>⟧.written self.old ++ take n piece.now) }
+        ensures nothing { OnErr result (⟦<MemSink as Sink>⟧.written self.new ≡ ⟦<MemSink as Sink>⟧.written self.old) }
+        ensures cause { HasCause (⟦<MemSink as Sink>⟧.faults self.old) (⟦<MemSink as Sink>⟧.faults self.new) result }
+        ensures listed_fails { IsListed (⟦<MemSink as Listed>⟧.failing self.old) (⟦<MemSink as Listed>⟧.next self.old) → IsErr result }
+        ensures counted { ⟦<MemSink as Listed>⟧.next self.new ≡ next_number (⟦<MemSink as Listed>⟧.next self.old) }
+        ensures listed { ⟦<MemSink as Listed>⟧.failing self.new ≡ ⟦<MemSink as Listed>⟧.failing self.old }
+    {
         let taken = piece
             .len()
             .min(self.step)

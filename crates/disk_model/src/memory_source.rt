@@ -1,8 +1,10 @@
 // A source in memory.
-ghost use Rattle.std.specs.Prelude.{◌≡◌, ◌-◌, ◌≤◌, ◌^◌, length, drop, vec_len};
+ghost use Rattle.std.specs.Prelude.{◌≡◌, ◌+◌, ◌-◌, ◌<◌, ◌≤◌, ◌^◌, ◌++◌, ◌↔◌, [], length, take, drop, IfOk, OnErr, IsErr};
+ghost use Rattle.disk_model.specs.Faults.{HasCause};
+ghost use Rattle.disk_model.specs.Listed.{IsListed, next_number};
 ghost use Rattle.std.proofs.Math.Nat.{le_trans, sub-le};
 
-use crate::call_count::CallCount;
+use crate::call_count::{CallCount, Listed};
 use crate::{Failed, Source};
 
 #[derive(Drop)]
@@ -26,6 +28,8 @@ impl MemSource {
         ensures left { ⟦<MemSource as Source>⟧.left result ≡ bytes.items }
         ensures bound { ⟦<MemSource as Source>⟧.bound result ≡ length bytes.items }
         ensures faults { ⟦<MemSource as Source>⟧.faults result ≡ 0 }
+        ensures next { ⟦<MemSource as Listed>⟧.next result ≡ 0 }
+        ensures listed { ⟦<MemSource as Listed>⟧.failing result ≡ failing.items }
     {
         MemSource {
             bytes,
@@ -34,6 +38,12 @@ impl MemSource {
             calls: CallCount::new(failing),
         }
     }
+}
+
+impl Listed for MemSource {
+    ghost next = { λ source. source.calls.made };
+
+    ghost failing = { λ source. source.calls.failing.items };
 }
 
 impl Source for MemSource {
@@ -45,7 +55,18 @@ impl Source for MemSource {
 
     ghost faults = { λ source. source.calls.faults };
 
-    fn read(&mut self, buf: &mut [u8]) -> Result<usize, Failed> {
+    fn read(&mut self, buf: &mut [u8]) -> Result<usize, Failed>
+        ensures given { IfOk result (λ n. n ≤ length buf.old) }
+        ensures bytes { IfOk result (λ n. ⟦<MemSource as Source>⟧.left self.old ≡ take n buf.new ++ ⟦<MemSource as Source>⟧.left self.new) }
+        ensures end { IfOk result (λ n. n ≡ 0 → 0 < length buf.old → ⟦<MemSource as Source>⟧.left self.old ≡ []) }
+        ensures kept { OnErr result (⟦<MemSource as Source>⟧.left self.new ≡ ⟦<MemSource as Source>⟧.left self.old) }
+        ensures nearer { IfOk result (λ n. ⟦<MemSource as Source>⟧.bound self.new + n ≤ ⟦<MemSource as Source>⟧.bound self.old) }
+        ensures no_further { OnErr result (⟦<MemSource as Source>⟧.bound self.new ≤ ⟦<MemSource as Source>⟧.bound self.old) }
+        ensures cause { HasCause (⟦<MemSource as Source>⟧.faults self.old) (⟦<MemSource as Source>⟧.faults self.new) result }
+        ensures exact { IsErr result ↔ IsListed (⟦<MemSource as Listed>⟧.failing self.old) (⟦<MemSource as Listed>⟧.next self.old) }
+        ensures counted { ⟦<MemSource as Listed>⟧.next self.new ≡ next_number (⟦<MemSource as Listed>⟧.next self.old) }
+        ensures listed { ⟦<MemSource as Listed>⟧.failing self.new ≡ ⟦<MemSource as Listed>⟧.failing self.old }
+    {
         if self.calls.fails_next() {
             return Err(self.calls.fail());
         }

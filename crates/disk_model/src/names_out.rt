@@ -29,6 +29,15 @@ impl NamesOut {
         }
     }
 
+    pub(crate) fn has(&self, name: &str) -> bool
+        ensures { result ≡ is_among string_bytes (items_of (λ list. list.items) self.now.names) name.now }
+    {
+        match &self.names {
+            Some(names) => names.iter().any(|own| own.as_str() == name),
+            None => false,
+        }
+    }
+
     /// Makes room for one name more.
     pub(crate) fn reserve(&mut self, alloc: Global) -> Result<(), AllocError>
         ensures names { items_of (λ list. list.items) self.new.names ≡ items_of (λ list. list.items) self.old.names }

@@ -51,7 +51,7 @@ pub trait Shelf {
         requires here { tells → places self.old name.now ≢ out }
         ensures taken { tells → IfOk result (λ disk. (places self.old name.now ≡ stored disk)
             ⊎ ((mode ≡ Mode.Write) × (places self.old name.now ≡ missing)
-                × IsMade Self.Held.tells_content Self.Held.tells_images (Self.Held.content disk) (Self.Held.history disk) (Self.Held.faults disk))) }
+            × IsMade Self.Held.tells_content Self.Held.tells_images (Self.Held.content disk) (Self.Held.history disk) (Self.Held.faults disk))) }
         ensures now_out { tells → IfOk result (λ disk. places self.new ≡ with_place (places self.old) name.now out) }
         ensures absent { tells → ((result ≡ Err TakeError.Absent) ↔ ((mode ≡ Mode.Read) × (places self.old name.now ≡ missing))) }
         ensures left { tells → OnErr result (places self.new ≡ places self.old) }

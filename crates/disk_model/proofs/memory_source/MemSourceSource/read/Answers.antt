@@ -16,6 +16,6 @@ module _ (bytes piece rest : List ℕ) (given n : ℕ) where
 
 pub returns-clause-bytes : goal.returns-clause-bytes
 unfolding left
-returns-clause-bytes c told =
+returns-clause-bytes c =
     let m = c.args.self.now in
     given_front m.bytes.items c.copy_from_slice.new.self (drop c.min-n.result c.args.buf.now) m.given c.min-n.result (rw c.deref.ensures.value at c.copy_from_slice.ensures.after) (omega (arith, rw c.deref.ensures.value at c.min-n.ensures))
