@@ -1,6 +1,7 @@
 -- The text of the command `list`.
-use Rattle.std.specs.Prelude.{ℕ, ◌-◌, ◌==◌, ◌&&◌, Bool, true, false, if◌then◌else◌, List, [], ◌∷◌, ◌++◌, length, codes, decimal, Option, Some, None, is_none}
+use Rattle.std.specs.Prelude.{◌≡◌, ℕ, ◌-◌, ◌==◌, ◌&&◌, Bool, true, false, if◌then◌else◌, List, [], ◌∷◌, ◌++◌, length, codes, decimal, Option, Some, None, is_none}
 use Rattle.std.specs.List.{list_any}
+use Rattle.std.specs.HashSet.{HashSet, contains}
 use Rattle.foz_words.specs.Hex.{hex_text}
 use Rattle.foz_words.specs.declared.key.Key.{Key}
 use Rattle.foz_entry.specs.declared.cut.Entry.{Entry}
@@ -17,6 +18,10 @@ same_key j k = j.tag == k.tag && j.hash == k.hash
 -- an undamaged entry has the key
 abbrev pub holds : List Entry → Key → Bool
 holds entries key = list_any (λ (entry : Entry). same_key entry.head.key key && is_none (damage entry.head entry.payload)) entries
+
+-- the set has exactly the keys of undamaged entries
+abbrev pub AreKeysHeld : {S : Type 0} → (Key → Key → Bool) → HashSet Key S → List Entry → Type 0
+AreKeysHeld eq keys entries = (key : Key) → contains eq keys key ≡ holds entries key
 
 -- how an entry stands among those before it: damaged, else the duplicate of an undamaged one, else sound
 abbrev pub standing_after : Option EntryCause → Bool → Soundness

@@ -1,12 +1,14 @@
 //! The text of the command `list`.
-ghost use Rattle.std.specs.Prelude.{◌≡◌, ◌≤◌, ◌++◌, Some, OnOk, IfOk};
+ghost use Rattle.std.specs.Prelude.{◌≡◌, ◌≤◌, ◌++◌, ◌∷◌, [], List, Some, OnOk, IfOk};
 ghost use Rattle.foz_words.specs.Hex.{hex_text};
-ghost use Rattle.foz_tool.specs.ListText.{holds, standing, standing_text, line, is_sound, rest_word, last_line, list_text, is_flawless};
+ghost use Rattle.foz_entry.specs.declared.cut.Entry.{Entry};
+ghost use Rattle.foz_tool.specs.ListText.{AreKeysHeld, standing, standing as standing_in, standing_text, is_ok_word, line, rest_word, last_line, list_text, is_flawless};
 
 use foz_archive::Scanned;
 use foz_entry::{Entry, EntryCause, check};
 use foz_words::{Key, NoMemory, hex16};
 use std::alloc::Global;
+use std::collections::HashSet;
 use std::fmt;
 
 /// A hash as its sixteen digits.
@@ -79,47 +81,49 @@ impl fmt::Display for Soundness {
     }
 }
 
-/// Whether an undamaged entry has the key.
-fn holds(entries: &[Entry], key: Key) -> bool
-    ensures { result ≡ holds entries.now key }
-{
-    entries.iter().any(|entry| entry.head.key == key
-        && check(&entry.head, entry.payload.as_slice()).is_ok())
-}
-
-fn standing(before: &[Entry], entry: &Entry) -> Soundness
-    ensures { result ≡ standing before.now entry.now }
+/// How an entry stands among those before it. The keys of the undamaged ones among them were seen, and its own is
+/// added to these.
+fn standing(seen: &mut HashSet<Key>, entry: &Entry) -> Result<Soundness, NoMemory>
+    ensures value { (before : List Entry) → AreKeysHeld ⟦<Key as PartialEq>⟧.eq seen.old before → IfOk result (λ soundness. soundness ≡ standing before entry.now) }
+    ensures seen { (before : List Entry) → AreKeysHeld ⟦<Key as PartialEq>⟧.eq seen.old before → OnOk result (AreKeysHeld ⟦<Key as PartialEq>⟧.eq seen.new (before ++ entry.now ∷ [])) }
 {
     match check(&entry.head, entry.payload.as_slice()) {
-        Err(cause) => Soundness::Damaged(cause),
+        Err(cause) => Ok(Soundness::Damaged(cause)),
         Ok(()) => {
-            if holds(before, entry.head.key) {
-                Soundness::Duplicate
+            if seen.insert(entry.head.key)? {
+                Ok(Soundness::Sound)
             } else {
-                Soundness::Sound
+                Ok(Soundness::Duplicate)
             }
         }
     }
 }
 
-/// Adds the line of an entry, and says whether the entry is sound.
+fn is_ok(standing: Soundness) -> bool
+    ensures { result ≡ is_ok_word standing }
+{
+    match standing {
+        Soundness::Sound => true,
+        Soundness::Duplicate | Soundness::Damaged(_) => false,
+    }
+}
+
+/// Adds the line of an entry that stands so among those before it.
 fn push_line(
     alloc: Global,
     out: &mut Vec<u8>,
-    before: &[Entry],
     entry: &Entry,
-) -> Result<bool, NoMemory>
-    ensures text { OnOk result (out.new.items ≡ out.old.items ++ line before.now entry.now) }
-    ensures sound { IfOk result (λ sound. sound ≡ is_sound before.now entry.now) }
+    standing: Soundness,
+) -> Result<(), NoMemory>
+    ensures { (before : List Entry) → standing ≡ standing_in before entry.now → OnOk result (out.new.items ≡ out.old.items ++ line before entry.now) }
 {
-    let standing = standing(before, entry);
     let offset = entry.offset;
     let tag = entry.head.key.tag;
     let hash = Hash(entry.head.key.hash);
     let size = entry.head.size;
     let text = format!(in alloc; "{offset} {tag} {hash} {size} {standing}\n")?;
     out.extend_from_slice(text.as_bytes())?;
-    Ok(matches!(standing, Soundness::Sound))
+    Ok(())
 }
 
 fn rest_word(clean: bool) -> &'static str
@@ -151,10 +155,12 @@ pub(crate) fn push_list(
     ensures text { OnOk result (out.new.items ≡ out.old.items ++ list_text scanned.now) }
     ensures flawless { IfOk result (λ flawless. flawless ≡ is_flawless scanned.now) }
 {
-    let entries = scanned.entries.as_slice();
+    let mut seen = HashSet::new(alloc);
     let mut flawless = true;
-    for (index, entry) in entries.iter().enumerate() {
-        flawless &= push_line(alloc, out, &entries[..index], entry)?;
+    for entry in scanned.entries.as_slice() {
+        let standing = standing(&mut seen, entry)?;
+        push_line(alloc, out, entry, standing)?;
+        flawless &= is_ok(standing);
     }
     push_last_line(alloc, out, scanned)?;
     Ok(flawless)

@@ -1,17 +1,36 @@
-use Rattle.std.proofs.Common.{refl, ◌∙◌}
+use Rattle.std.proofs.Common.{◌≡◌, refl, sym, ap, ◌∙◌, ◌+◌, List, ◌++◌, ◌∷◌, [], take}
+use Rattle.std.specs.List.{list_any}
+use Rattle.std.proofs.lemmas.List.{take_more}
+use Rattle.foz_words.specs.declared.key.Key.{Key}
+use Rattle.foz_entry.specs.declared.cut.Entry.{Entry}
+use Rattle.foz_words.specs.contracts.key.KeyPartialEq.TheImpl as KeyPartialEq
+use Rattle.foz_tool.specs.ListText.{holds, is_ok_word}
 use Rattle.foz_tool.proofs.Lines.{lines_more, all_lines, list_text_is, is_flawless_is}
 use Rattle.foz_tool.proofs.list_text.push_list.Goals as goal
 
-pub loop-index-init : goal.loop-index-init
-loop-index-init c = record { text = refl; flawless = refl }
+pub loop-entry-init : goal.loop-entry-init
+loop-entry-init c = record {
+  lines = record { text = refl; flawless = refl };
+  seen = λ key. ap (λ (keys : List Key). list_any (KeyPartialEq.ghosts.eq key) keys) c.new-seen.ensures.empty;
+}
 
-pub loop-index-preserved : goal.loop-index-preserved
-loop-index-preserved c = lines_more _ _ _ _ c.loop-index.flawless _ c.loop-index.index c.index-entries-index.result c.loop-index-test.true c.index-entries-index.is c.in_ok-flawless.ensures.text c.in_ok-flawless.ensures.sound c.loop-index.invariant
+pub loop-entry-preserved : goal.loop-entry-preserved
+loop-entry-preserved c =
+    let items = c.as_slice-entry-items.result.now in
+    let i = c.loop-entry.entry-index in
+    let e = c.entry-item.result in
+    let seen = c.loop-entry.invariant.seen in
+    let stands = c.in_ok-standing.ensures.value (take i items) seen in
+    let more : take (i + 1) items ≡ take i items ++ e ∷ [] = take_more items i e c.loop-entry-test.true ∙ ap (λ (x : Entry). take i items ++ x ∷ []) (sym c.entry-item.is) in
+    record {
+      lines = lines_more items _ _ _ c.loop-entry.flawless _ i e c.loop-entry-test.true c.entry-item.is (c.in_ok-push_line.ensures (take i items) stands) (c.is_ok-flawless.ensures ∙ ap is_ok_word stands) c.loop-entry.invariant.lines;
+      seen = λ key. c.in_ok-standing.ensures.seen (take i items) seen key ∙ ap (λ (l : List Entry). holds l key) (sym more);
+    }
 
 pub returns-clause-text : goal.returns-clause-text
 returns-clause-text c =
-    let lines = all_lines _ _ _ _ _ c.loop-index-test.false c.loop-index.invariant in
-    list_text_is _ _ _ c.args.scanned.now (lines.0 ∙ rw c.as_slice-entries.ensures refl) c.in_ok-push_last_line.ensures
+    let lines = all_lines _ _ _ _ _ c.loop-entry-test.false c.loop-entry.invariant.lines in
+    list_text_is _ _ _ c.args.scanned.now (lines.0 ∙ rw c.as_slice-entry-items.ensures refl) c.in_ok-push_last_line.ensures
 
 pub returns-clause-flawless : goal.returns-clause-flawless
-returns-clause-flawless c = is_flawless_is c.args.scanned.now _ ((all_lines _ _ _ _ _ c.loop-index-test.false c.loop-index.invariant).1 ∙ rw c.as_slice-entries.ensures refl)
+returns-clause-flawless c = is_flawless_is c.args.scanned.now _ ((all_lines _ _ _ _ _ c.loop-entry-test.false c.loop-entry.invariant.lines).1 ∙ rw c.as_slice-entry-items.ensures refl)
