@@ -2,7 +2,7 @@
 ghost use Rattle.std.specs.Prelude.{◌≡◌, ◌⊎◌, ◌+◌, ◌-◌, ◌<◌, ◌≤◌, [], ◌∷◌, true, false, List, ℕ, length, take, IfOk, OnOk, OnErr, IsOk};
 ghost use Rattle.disk_model.specs.Disk.{LeavesOnly};
 ghost use Rattle.disk_model.specs.Faults.{HasCause};
-ghost use Rattle.foz_archive.specs.Reading.{Holds};
+ghost use Rattle.foz_archive.specs.Reading.{Holds, end_limit, count_limit};
 ghost use Rattle.foz_archive.specs.Kept.{Archived, IsSettled};
 
 use disk_model::Disk;
@@ -45,28 +45,33 @@ impl<D: Disk> Model for Archive<D> {
 impl<D: Disk> Archive<D> {
     /// All entries in file order, and those that wait last.
     pub fn entries(&self) -> &[Entry]
-        ensures { result.now ≡ self.now.entries }
+        ensures all { result.now ≡ self.now.entries }
+        ensures few { length self.now.entries ≤ count_limit }
     {
         self.entries.as_slice()
     }
 
     /// How many entries stand in the file.
     pub fn flushed(&self) -> u32
-        ensures { result ≡ self.now.flushed }
+        ensures count { result ≡ self.now.flushed }
+        ensures within { self.now.flushed ≤ length self.now.entries }
     {
         self.flushed
     }
 
     /// Where all entries end, also those that wait.
     pub fn end(&self) -> u64
-        ensures { result ≡ self.now.end }
+        ensures end { result ≡ self.now.end }
+        ensures near { self.now.end ≤ end_limit }
     {
         self.gate.end() + (self.batch.len() as u64 - 1)
     }
 
-    /// Did a commit fail? Then the file must be opened again.
+    /// Did a commit fail? Then the file must be opened again. Otherwise the flushed entries, and no others, stand in the
+    /// file, a closed gate stands behind them, and nothing is pending.
     pub fn is_broken(&self) -> bool
-        ensures { result ≡ self.now.broken }
+        ensures broken { result ≡ self.now.broken }
+        ensures settled { self.now.broken ≡ false → IsSettled D.tells_content D.tells_images (D.content self.now.disk) (D.history self.now.disk) (take self.now.flushed self.now.entries) self.now.flushed_end }
     {
         self.gate.is_broken()
     }

@@ -171,6 +171,9 @@ fn a_stop_while_a_file_is_mended_leaves_its_entry(rt: HostRuntime) -> Result<(),
 #[test]
 fn what_is_read_was_synced_first(rt: HostRuntime) -> Result<(), Fail> {
     let mut disk = disk(&rt, &[HEADER, b"\0"], &[])?;
+    let Ok(17) = disk.len() else {
+        return Err(Fail::new("another length"));
+    };
     assert_eq!(rt; disk.write_at(16, FIRST), Ok(()));
     let archive = opened(&rt, disk)?;
     assert!(rt; holds_first(&archive, 1));
