@@ -1,11 +1,11 @@
 -- What each image of an archive holds, from the bytes that the gate leaves.
-use Rattle.std.proofs.Common.{◌≡◌, ◌≢◌, ◌⊎◌, inl, inr, ℕ, ◌+◌, ◌≤◌, List, [], ◌∷◌, ◌++◌, length, get_or, take, drop, refl, sym, ◌∙◌, ap, subst, arith, append_assoc, length-append, length-drop, length-take, take-append-drop, get_or-drop}
-use Rattle.std.proofs.lemmas.List.{take_at, drop_at, take-take, take-append-le, drop-append-le}
+use Rattle.std.proofs.Common.{◌≡◌, ◌⊎◌, inl, inr, ℕ, ◌+◌, ◌≤◌, List, [], ◌∷◌, ◌++◌, length, get_or, take, drop, refl, sym, ◌∙◌, ap, subst, arith, append_assoc, length-append, length-drop, length-take, take-append-drop, get_or-drop}
+use Rattle.std.proofs.lemmas.List.{take_at, drop_at, drop-append-le}
 use Rattle.std.proofs.lemmas.Bool.{cases_lt}
 use Rattle.foz_entry.specs.declared.cut.Entry.{Entry}
-use Rattle.gate_append.specs.Gate.{IsClosedAt, IsCutOrClosed, IsWithoutOrWith}
+use Rattle.gate_append.specs.Gate.{IsCutOrClosed, IsWithoutOrWith}
 use Rattle.foz_archive.specs.Reading.{magic, header, BeginsWithNone, Stand, InRow, Reads, IsAccepted, Holds, end_limit, count_limit}
-use Rattle.foz_archive.proofs.Rows.{Row, row_of, rows_join, row_stands, stand_row, none_short, none_shut, none_front}
+use Rattle.foz_archive.proofs.Rows.{row_of, rows_join, row_stands, stand_row, none_short, none_shut, none_front}
 
 pub length-header : length header ≡ 16
 unfolding header magic

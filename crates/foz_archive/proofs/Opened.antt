@@ -1,25 +1,25 @@
 -- What an opening leaves.
-use Rattle.std.proofs.Common.{◌≡◌, ◌≢◌, ◌⊎◌, inl, inr, ℕ, ◌+◌, ◌-◌, ◌<◌, ◌≤◌, max, List, [], ◌∷◌, ◌++◌, length, get_or, take, drop, refl, sym, ◌∙◌, ap, subst, arith, append_assoc, append-nil, length-append, length-drop, length-take, take-append-drop}
-use Rattle.std.proofs.lemmas.List.{take_all, take_at, drop_at, drop_all, get_or_at}
+use Rattle.std.proofs.Common.{◌≡◌, ◌⊎◌, inl, inr, ℕ, ◌+◌, ◌-◌, ◌≤◌, List, [], ◌∷◌, ◌++◌, length, get_or, take, drop, refl, sym, ◌∙◌, ap, subst, arith, append-nil, length-append, length-drop}
+use Rattle.std.proofs.lemmas.List.{take_at, drop_all, get_or_at}
 use Rattle.std.specs.Prelude.{Result, Ok, Err, OnOk, Bool, true, false}
 use Rattle.std.specs.Bool.{Decides}
 use Rattle.std.specs.Str.{bytes_eq}
 use Rattle.std.proofs.lemmas.Bool.Decides.{not_from_Decides}
 use Rattle.std.proofs.lemmas.Slice.Eq.{bytes_eq-Decides}
-use Rattle.disk_model.specs.Disk.{DiskState, History, latest, IsImage, NothingPending, LeavesOnly, Torn, Rests, Syncs, overwritten}
+use Rattle.disk_model.specs.Disk.{History, latest, IsImage, NothingPending, LeavesOnly, Torn, Rests, Syncs, overwritten}
 use Rattle.disk_model.proofs.Moments.{leaves_only-weaken, then_runs, no_calls}
 use Rattle.disk_model.proofs.Calls.{then_sync, then_rest}
 use Rattle.foz_entry.specs.declared.cut.Entry.{Entry}
 use Rattle.gate_append.specs.Gate.{IsClosedAt, IsAtRest, IsCutOrClosed}
-use Rattle.foz_archive.specs.Reading.{magic, header, is_clean, BeginsWithNone, Stand, InRow, Reads, IsAccepted, IsNew, Holds, end_limit, count_limit}
-use Rattle.foz_archive.specs.Refusal.{IsRefusedBy, HasMagic}
+use Rattle.foz_archive.specs.Reading.{magic, header, is_clean, InRow, IsAccepted, IsNew, Holds, end_limit, count_limit}
+use Rattle.foz_archive.specs.Refusal.{IsRefusedBy}
 use Rattle.foz_archive.specs.OnlyRead.{OnlyReads}
 use Rattle.foz_archive.specs.Kept.{IsSettled, IsWaiting}
 use Rattle.foz_archive.specs.Opened.{HoldAlike, IsClosedArchive}
 use Rattle.foz_archive.specs.declared.refusal.ArchiveError.{ArchiveError}
 use Rattle.foz_archive.proofs.Rows.{none_short}
 use Rattle.foz_archive.proofs.Unique.{Stand-unique, never_both}
-use Rattle.foz_archive.proofs.Held.{length-header, opening_holds, batch_accepted, end_within}
+use Rattle.foz_archive.proofs.Held.{length-header, opening_holds, batch_accepted}
 
 module _ (content : List ℕ) (entries : List Entry) (end : ℕ) (accepted : IsAccepted content entries end) where
   -- a file that is closed behind its entries holds them

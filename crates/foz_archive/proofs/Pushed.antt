@@ -1,5 +1,5 @@
 -- One entry more behind those that wait.
-use Rattle.std.proofs.Common.{◌≡◌, ℕ, ◌+◌, ◌-◌, ◌<◌, ◌≤◌, ◌^◌, List, [], ◌∷◌, ◌++◌, length, get_or, set, take, drop, refl, sym, ◌∙◌, ap, subst, arith, append_assoc, drop-cons, length-append, length-drop, take-append-drop}
+use Rattle.std.proofs.Common.{◌≡◌, ℕ, ◌+◌, ◌-◌, ◌<◌, ◌≤◌, ◌^◌, List, [], ◌∷◌, ◌++◌, length, get_or, set, take, drop, refl, sym, ◌∙◌, ap, subst, arith, append_assoc, drop-cons, length-append}
 use Rattle.std.proofs.lemmas.List.{set_at, take_rest, take-append-le, drop-append-le}
 use Rattle.disk_model.specs.Disk.{History}
 use Rattle.foz_words.specs.declared.key.Key.{Key}
@@ -8,11 +8,11 @@ use Rattle.foz_entry.specs.declared.cut.Entry.{Entry}
 use Rattle.foz_entry.specs.Whole.{IsWhole}
 use Rattle.foz_entry.specs.Spelling.{head_text, head_of, stored_head}
 use Rattle.foz_entry.proofs.Names.{spelled_whole, length-head_text}
-use Rattle.foz_archive.specs.Reading.{InRow, end_limit, count_limit}
+use Rattle.foz_archive.specs.Reading.{InRow}
 use Rattle.foz_crc.specs.Crc32.{crc32_of}
 use Rattle.foz_archive.specs.Kept.{IsSettled, IsWaiting}
 use Rattle.foz_archive.specs.Pushed.{HasRoom, entry_at}
-use Rattle.foz_archive.proofs.Rows.{Row, row_of, rows_join, first_of_whole}
+use Rattle.foz_archive.proofs.Rows.{Row, row_of, rows_join}
 
 abbrev pub made_of : ℕ → Cut → List ℕ → Entry
 made_of offset head payload = record { offset = offset; head = head; payload = payload }

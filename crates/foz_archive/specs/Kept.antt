@@ -1,5 +1,5 @@
 -- An archive that is being written.
-use Rattle.std.specs.Prelude.{◌≡◌, ℕ, ◌+◌, ◌-◌, ◌≤◌, Bool, List, [], ◌∷◌, length, drop}
+use Rattle.std.specs.Prelude.{ℕ, ◌+◌, ◌-◌, ◌≤◌, Bool, List, [], ◌∷◌, length, drop}
 use Rattle.disk_model.specs.Disk.{History, latest, NothingPending}
 use Rattle.gate_append.specs.Gate.{IsClosedAt}
 use Rattle.foz_entry.specs.declared.cut.Entry.{Entry}

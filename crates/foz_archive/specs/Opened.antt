@@ -1,5 +1,5 @@
 -- What an opening leaves, and why it is refused.
-use Rattle.std.specs.Prelude.{◌≡◌, ℕ, List, Result, Ok, Err}
+use Rattle.std.specs.Prelude.{ℕ, List, Result, Ok, Err}
 use Rattle.gate_append.specs.Gate.{IsClosedAt}
 use Rattle.foz_entry.specs.declared.cut.Entry.{Entry}
 use Rattle.foz_archive.specs.Reading.{IsAccepted, IsNew, Holds}

@@ -1,8 +1,8 @@
-use Rattle.std.proofs.Common.{◌≡◌, ◌+◌, ◌-◌, ◌≤◌, ◌++◌, [], ◌∷◌, List, ℕ, length, take, refl, sym, ap, subst, ◌∙◌, arith}
+use Rattle.std.proofs.Common.{◌≡◌, List, ℕ, length, sym, ap, subst, arith}
 use Rattle.std.proofs.lemmas.List.{take_all}
 use Rattle.gate_append.specs.Gate.{IsAtRest}
 use Rattle.foz_entry.specs.declared.cut.Entry.{Entry}
-use Rattle.foz_archive.specs.Kept.{IsSettled, IsWaiting}
+use Rattle.foz_archive.specs.Kept.{IsSettled}
 use Rattle.foz_archive.proofs.Held.{end_within}
 use Rattle.foz_archive.proofs.Opened.{opening_leaves, opened_settled, none_waits}
 use Rattle.foz_archive.proofs.opening.go_on.Goals as goal

@@ -1,8 +1,7 @@
-use Rattle.std.proofs.Common.{◌≡◌, ◌⊎◌, [], List, ℕ, inl, refl, sym, subst, arith}
-use Rattle.disk_model.specs.Disk.{LeavesOnly}
+use Rattle.std.proofs.Common.{◌≡◌, ◌⊎◌, [], inl, refl, sym, subst, arith}
 use Rattle.disk_model.proofs.Moments.{leaves_only-weaken, then_runs}
 use Rattle.foz_archive.specs.Reading.{Holds, IsNew}
-use Rattle.foz_archive.specs.Opened.{HoldAlike, opened_disk}
+use Rattle.foz_archive.specs.Opened.{HoldAlike}
 use Rattle.foz_archive.proofs.Opened.{alike, refused_is_new, rest_leaves}
 use Rattle.foz_archive.proofs.opening.open_unread.Goals as goal
 

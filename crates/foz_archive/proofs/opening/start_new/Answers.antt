@@ -1,4 +1,4 @@
-use Rattle.std.proofs.Common.{◌≡◌, ◌+◌, ◌++◌, [], ◌∷◌, List, ℕ, length, refl}
+use Rattle.std.proofs.Common.{refl}
 use Rattle.foz_archive.specs.Reading.{magic, header}
 use Rattle.foz_archive.proofs.Opened.{new_leaves, started}
 use Rattle.foz_archive.proofs.opening.start_new.Goals as goal
