@@ -41,33 +41,39 @@ fn joined(alloc: Global, front: &[u8], back: &[u8]) -> Result<Vec<u8>, Fail> {
     Ok(bytes)
 }
 
-/// A shelf whose one file has these bytes and fails at these calls.
-fn shelf_of(alloc: Global, bytes: &[u8], failing: &[u64]) -> Result<MemShelf, Fail> {
+/// One file with these bytes, which fails at these calls.
+fn one_file(alloc: Global, bytes: &[u8], failing: &[u64]) -> Result<Vec<(String, MemDisk)>, Fail> {
     let bytes = Vec::from_slice(alloc, bytes)?;
     let failing = Vec::from_slice(alloc, failing)?;
     let disk = MemDisk::new(alloc, bytes, 1000, 1000, failing)?;
     let mut files = Vec::new(alloc);
     files.push((String::from_str(alloc, "a.foz")?, disk))?;
-    Ok(MemShelf::new(files, 1000, 1000, Vec::new(alloc)))
+    Ok(files)
 }
 
-/// Runs the program with words that stand between blanks.
+/// The words that stand between blanks.
+fn words_of(alloc: Global, text: &str) -> Result<Vec<String>, Fail> {
+    let mut words = Vec::new(alloc);
+    for word in text.split(' ') {
+        words.push(String::from_str(alloc, word)?)?;
+    }
+    Ok(words)
+}
+
+/// Runs the program over a shelf with these files and an output that fails at these calls.
 fn answer_to(
     alloc: Global,
     words: &str,
-    files: MemShelf,
+    files: Vec<(String, MemDisk)>,
     output_failing: &[u64],
 ) -> Result<Answer, Fail> {
+    let words = words_of(alloc, words)?;
     let mut host = Host {
         output: MemSink::new(alloc, 1000, 7, Vec::from_slice(alloc, output_failing)?)?,
         errors: MemSink::new(alloc, 1000, 7, Vec::new(alloc))?,
-        files,
+        files: MemShelf::new(files, 1000, 1000, Vec::new(alloc)),
     };
-    let mut given = Vec::new(alloc);
-    for word in words.split(' ') {
-        given.push(String::from_str(alloc, word)?)?;
-    }
-    let status = run(alloc, given.as_slice(), &mut host);
+    let status = run(alloc, words.as_slice(), &mut host);
     Ok(Answer {
         status,
         output: text_of(alloc, host.output.written())?,
@@ -91,7 +97,7 @@ fn expect_list(
     output: &str,
 ) -> Result<(), Fail> {
     let file = joined(alloc, front, back)?;
-    let answer = answer_to(alloc, "list a.foz", shelf_of(alloc, &file, &[])?, &[])?;
+    let answer = answer_to(alloc, "list a.foz", one_file(alloc, &file, &[])?, &[])?;
     expect(rt, &answer, status, output, "");
     Ok(())
 }
@@ -105,7 +111,7 @@ fn expect_refusal(
     errors: &str,
 ) -> Result<(), Fail> {
     let file = joined(alloc, front, back)?;
-    let answer = answer_to(alloc, "list a.foz", shelf_of(alloc, &file, &[])?, &[])?;
+    let answer = answer_to(alloc, "list a.foz", one_file(alloc, &file, &[])?, &[])?;
     expect(rt, &answer, 6, "", errors);
     Ok(())
 }
@@ -206,7 +212,7 @@ fn refuses_what_is_no_archive(rt: HostRuntime) -> Result<(), Fail> {
     )?;
     expect_refusal(&rt, alloc, b"\x81F", b"", "foz: bad magic 8146\n")?;
     expect_refusal(&rt, alloc, b"", b"", "foz: bad magic -\n")?;
-    let none = MemShelf::new(Vec::new(alloc), 1000, 1000, Vec::new(alloc));
+    let none = Vec::new(alloc);
     expect(
         &rt,
         &answer_to(alloc, "list a.foz", none, &[])?,
@@ -227,7 +233,7 @@ fn refuses_other_words(rt: HostRuntime) -> Result<(), Fail> {
         "lists a.foz",
         "list ",
     ] {
-        let answer = answer_to(alloc, words, shelf_of(alloc, HEADER, &[])?, &[])?;
+        let answer = answer_to(alloc, words, one_file(alloc, HEADER, &[])?, &[])?;
         expect(&rt, &answer, 2, "", "foz: usage\n");
     }
     Ok(())
@@ -237,13 +243,13 @@ fn refuses_other_words(rt: HostRuntime) -> Result<(), Fail> {
 fn a_fault_is_told(rt: HostRuntime) -> Result<(), Fail> {
     let alloc = rt.alloc();
     let file = joined(alloc, HEADER, EMPTY)?;
-    let at_once = answer_to(alloc, "list a.foz", shelf_of(alloc, &file, &[0])?, &[])?;
+    let at_once = answer_to(alloc, "list a.foz", one_file(alloc, &file, &[0])?, &[])?;
     expect(&rt, &at_once, 3, "", "foz: read fault\n");
-    let in_the_read = answer_to(alloc, "list a.foz", shelf_of(alloc, &file, &[1])?, &[])?;
+    let in_the_read = answer_to(alloc, "list a.foz", one_file(alloc, &file, &[1])?, &[])?;
     expect(&rt, &in_the_read, 3, "", "foz: read fault\n");
-    let no_output = answer_to(alloc, "list a.foz", shelf_of(alloc, HEADER, &[])?, &[0])?;
+    let no_output = answer_to(alloc, "list a.foz", one_file(alloc, HEADER, &[])?, &[0])?;
     expect(&rt, &no_output, 4, "", "foz: write fault\n");
-    let cut_short = answer_to(alloc, "list a.foz", shelf_of(alloc, &file, &[])?, &[2])?;
+    let cut_short = answer_to(alloc, "list a.foz", one_file(alloc, &file, &[])?, &[2])?;
     expect(&rt, &cut_short, 4, "16 1 000000000", "foz: write fault\n");
     Ok(())
 }
