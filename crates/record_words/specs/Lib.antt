@@ -1,0 +1,7 @@
+pub mod Entries
+pub mod Recorder
+pub mod Story
+pub mod Recorded
+pub mod Placed
+pub mod Alone
+pub mod Added

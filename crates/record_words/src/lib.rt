@@ -1,0 +1,14 @@
+//! What a recorder of keyed payloads replies, what a history of its calls is, and what it is that a capture was recorded
+//! by several threads.
+#![tactic(auto)]
+
+mod laws;
+mod note;
+mod state;
+
+pub use laws::{
+    one_thread_has_one_record, stories_add_each_key_once, stories_make_records,
+    what_is_added_is_fresh,
+};
+pub use note::{FullNote, RecordCall, RecordNote, RecordReply};
+pub use state::RecorderState;
