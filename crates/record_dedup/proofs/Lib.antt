@@ -1,0 +1,4 @@
+pub mod Indexed
+pub mod Ends
+pub mod Kept
+pub mod Answers

@@ -1,0 +1,7 @@
+use Rattle.std.proofs.Common.{take}
+use Rattle.foz_words.specs.contracts.key.KeyPartialEq.TheImpl as KeyPartialEq
+use Rattle.record_dedup.specs.Indexed.{IsIndexOf}
+use Rattle.record_dedup.proofs.index.index_of.Given as goal
+
+abbrev pub invariant-loop-place : goal.invariant-loop-place
+invariant-loop-place l = IsIndexOf KeyPartialEq.ghosts.eq l.index (take l.place l.entries)

@@ -1,0 +1,11 @@
+//! The book: an archive in which each key is recorded once. An index by key finds what is recorded already.
+#![tactic(auto)]
+
+mod ack;
+mod book;
+mod index;
+#[cfg(test)]
+mod tests;
+
+pub use ack::{Ack, FlushError, RecordError};
+pub use book::Book;
