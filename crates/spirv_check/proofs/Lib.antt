@@ -1,0 +1,5 @@
+pub mod Framing
+pub mod Findings
+pub mod Naming
+pub mod Judging
+pub mod Walking

@@ -1,0 +1,4 @@
+pub mod Frames
+pub mod Fronts
+pub mod Feeds
+pub mod Streams
