@@ -1,7 +1,7 @@
 //! The program `foz`: it hands the standard streams, the files of the system and its words to `foz_tool::run`.
 #![tactic(auto)]
 
-use disk_model::{FolderShelf, StdSink};
+use disk_model::{FolderShelf, StdSink, StdSource};
 use foz_tool::{Host, run};
 use std::env;
 use std::process::ExitCode;
@@ -24,6 +24,7 @@ fn main(rt: HostRuntime) -> ExitCode {
         }
     }
     let mut host = Host {
+        input: StdSource::new(rt.stdin()),
         output: StdSink::output(rt.stdout()),
         errors: StdSink::errors(rt.stderr()),
         files: FolderShelf::new(rt),

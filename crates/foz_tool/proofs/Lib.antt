@@ -2,3 +2,10 @@ pub mod Lines
 pub mod Pieces
 pub mod ListStatuses
 pub mod Seen
+pub mod Numbers
+pub mod InputRead
+pub mod Replies
+pub mod OneRecord
+pub mod FileRecord
+pub mod PutEnds
+pub mod PutStatuses

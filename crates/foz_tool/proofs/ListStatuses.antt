@@ -7,7 +7,7 @@ use Rattle.foz_archive.specs.Reading.{IsReading}
 use Rattle.foz_archive.specs.Refusal.{IsRefusedBy}
 use Rattle.foz_archive.proofs.Unique.{IsReading-unique, never_both as read_or_refused}
 use Rattle.foz_tool.specs.declared.stop.Stop.{Stop}
-use Rattle.foz_tool.specs.declared.stop.Stop.TheVariants.{Usage, ReadFault, WriteFault, Absent, Archive, Memory}
+use Rattle.foz_tool.specs.declared.stop.Stop.TheVariants.{Usage, ReadFault, WriteFault, DiskFault, Absent, Archive, Memory, Full, TooMany, InputTooLong}
 use Rattle.foz_tool.specs.FileRead.{IsFileReading, IsFileRefused}
 use Rattle.foz_tool.specs.ListText.{list_text, is_flawless}
 use Rattle.foz_tool.specs.View.{View, File, absent, holds, taken, FileFaultRose}
@@ -55,6 +55,10 @@ module _ (before after : View) where
   pub none_other : (outcome : Result Bool Stop) (status : ℕ) → ListEnds before after outcome → status ≡ status_of outcome → (status ≤ 1) ⊎ (status ≡ 3) ⊎ (status ≡ 4) ⊎ (status ≡ 6) ⊎ (status ≡ 7)
   none_other (Ok flawless) status ends is = inl (omega (arith, is, small flawless))
   none_other (Err Usage) status ends is = absurd ends
+  none_other (Err DiskFault) status ends is = absurd ends
+  none_other (Err (Full place need)) status ends is = absurd ends
+  none_other (Err (TooMany count)) status ends is = absurd ends
+  none_other (Err InputTooLong) status ends is = absurd ends
   none_other (Err ReadFault) status ends is = inr (inl is)
   none_other (Err WriteFault) status ends is = inr (inr (inl is))
   none_other (Err Absent) status ends is = inr (inr (inr (inl is)))
@@ -69,6 +73,10 @@ module _ (before after : View) where
         is ∙ ap (λ (b : Bool). if b then 0 else 1) (ends.is_flawless ∙ ap is_flawless one),
       )
   text (Err Usage) status file scanned ends is told reading le = absurd ends
+  text (Err DiskFault) status file scanned ends is told reading le = absurd ends
+  text (Err (Full place need)) status file scanned ends is told reading le = absurd ends
+  text (Err (TooMany count)) status file scanned ends is told reading le = absurd ends
+  text (Err InputTooLong) status file scanned ends is told reading le = absurd ends
   text (Err ReadFault) status file scanned ends is told reading le = absurd (omega (arith, is))
   text (Err WriteFault) status file scanned ends is told reading le = absurd (omega (arith, is))
   text (Err Absent) status file scanned ends is told reading le = absurd (omega (arith, is))
@@ -78,6 +86,10 @@ module _ (before after : View) where
   pub read_fault : (outcome : Result Bool Stop) (status : ℕ) → ListEnds before after outcome → status ≡ status_of outcome → status ≡ 3 → FileFaultRose before after × (after.written ≡ before.written)
   read_fault (Ok flawless) status ends is e = absurd (omega (arith, is, small flawless))
   read_fault (Err Usage) status ends is e = absurd ends
+  read_fault (Err DiskFault) status ends is e = absurd ends
+  read_fault (Err (Full place need)) status ends is e = absurd ends
+  read_fault (Err (TooMany count)) status ends is e = absurd ends
+  read_fault (Err InputTooLong) status ends is e = absurd ends
   read_fault (Err ReadFault) status ends is e = (ends.stopped, ends.written)
   read_fault (Err WriteFault) status ends is e = absurd (omega (arith, is))
   read_fault (Err Absent) status ends is e = absurd (omega (arith, is))
@@ -88,6 +100,10 @@ module _ (before after : View) where
       → status ≡ 4 → Rose before.output_faults after.output_faults × ((count : ℕ) × (after.written ≡ before.written ++ take count (list_text scanned)))
   write_fault (Ok flawless) status file scanned ends is told reading e = absurd (omega (arith, is, small flawless))
   write_fault (Err Usage) status file scanned ends is told reading e = absurd ends
+  write_fault (Err DiskFault) status file scanned ends is told reading e = absurd ends
+  write_fault (Err (Full place need)) status file scanned ends is told reading e = absurd ends
+  write_fault (Err (TooMany count)) status file scanned ends is told reading e = absurd ends
+  write_fault (Err InputTooLong) status file scanned ends is told reading e = absurd ends
   write_fault (Err ReadFault) status file scanned ends is told reading e = absurd (omega (arith, is))
   write_fault (Err WriteFault) status file scanned ends is told reading e =
       let one = one_reading before.file file ends.scanned scanned ends.reading told reading in
@@ -100,6 +116,10 @@ module _ (before after : View) where
       → ((before.file ≡ absent) ⊎ ((error : ArchiveError) × IsFileRefused before.file error)) × (after.written ≡ before.written)
   refused (Ok flawless) status ends is e = absurd (omega (arith, is, small flawless))
   refused (Err Usage) status ends is e = absurd ends
+  refused (Err DiskFault) status ends is e = absurd ends
+  refused (Err (Full place need)) status ends is e = absurd ends
+  refused (Err (TooMany count)) status ends is e = absurd ends
+  refused (Err InputTooLong) status ends is e = absurd ends
   refused (Err ReadFault) status ends is e = absurd (omega (arith, is))
   refused (Err WriteFault) status ends is e = absurd (omega (arith, is))
   refused (Err Absent) status ends is e = (inl ends.stopped, ends.written)
@@ -110,6 +130,10 @@ module _ (before after : View) where
       → (status ≡ 3) ⊎ (status ≡ 6) ⊎ (status ≡ 7)
   always_refused (Ok flawless) status file error ends is told bad = absurd (no_reading before.file file ends.scanned error ends.reading told bad)
   always_refused (Err Usage) status file error ends is told bad = absurd ends
+  always_refused (Err DiskFault) status file error ends is told bad = absurd ends
+  always_refused (Err (Full place need)) status file error ends is told bad = absurd ends
+  always_refused (Err (TooMany count)) status file error ends is told bad = absurd ends
+  always_refused (Err InputTooLong) status file error ends is told bad = absurd ends
   always_refused (Err ReadFault) status file error ends is told bad = inl is
   always_refused (Err WriteFault) status file error ends is told bad = absurd (no_reading before.file file ends.scanned error ends.reading told bad)
   always_refused (Err Absent) status file error ends is told bad = inr (inl is)
@@ -119,6 +143,10 @@ module _ (before after : View) where
   pub always_absent : (outcome : Result Bool Stop) (status : ℕ) → ListEnds before after outcome → status ≡ status_of outcome → before.file ≡ absent → (status ≡ 3) ⊎ (status ≡ 6) ⊎ (status ≡ 7)
   always_absent (Ok flawless) status ends is gone = absurd (no_absent before.file ends.scanned ends.reading gone)
   always_absent (Err Usage) status ends is gone = absurd ends
+  always_absent (Err DiskFault) status ends is gone = absurd ends
+  always_absent (Err (Full place need)) status ends is gone = absurd ends
+  always_absent (Err (TooMany count)) status ends is gone = absurd ends
+  always_absent (Err InputTooLong) status ends is gone = absurd ends
   always_absent (Err ReadFault) status ends is gone = inl is
   always_absent (Err WriteFault) status ends is gone = absurd (no_absent before.file ends.scanned ends.reading gone)
   always_absent (Err Absent) status ends is gone = inr (inl is)
@@ -128,6 +156,10 @@ module _ (before after : View) where
   pub memory : (outcome : Result Bool Stop) (status : ℕ) → ListEnds before after outcome → status ≡ status_of outcome → status ≡ 7 → after.written ≡ before.written
   memory (Ok flawless) status ends is e = absurd (omega (arith, is, small flawless))
   memory (Err Usage) status ends is e = absurd ends
+  memory (Err DiskFault) status ends is e = absurd ends
+  memory (Err (Full place need)) status ends is e = absurd ends
+  memory (Err (TooMany count)) status ends is e = absurd ends
+  memory (Err InputTooLong) status ends is e = absurd ends
   memory (Err ReadFault) status ends is e = ends.written
   memory (Err WriteFault) status ends is e = absurd (omega (arith, is))
   memory (Err Absent) status ends is e = ends.written

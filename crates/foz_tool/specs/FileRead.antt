@@ -5,7 +5,7 @@ use Rattle.foz_archive.specs.declared.scanned.Scanned.{Scanned}
 use Rattle.foz_archive.specs.Reading.{IsReading}
 use Rattle.foz_archive.specs.Refusal.{IsRefusedBy}
 use Rattle.foz_tool.specs.declared.stop.Stop.{Stop}
-use Rattle.foz_tool.specs.declared.stop.Stop.TheVariants.{Usage, ReadFault, WriteFault, Absent, Archive, Memory}
+use Rattle.foz_tool.specs.declared.stop.Stop.TheVariants.{Usage, ReadFault, WriteFault, DiskFault, Absent, Archive, Memory, Full, TooMany, InputTooLong}
 use Rattle.foz_tool.specs.View.{File, absent, holds}
 
 -- the file is there, and this is what is read of it
@@ -28,6 +28,10 @@ StopsReading file fault (Archive error) = IsFileRefused file error
 StopsReading file fault Memory = Unit {0}
 StopsReading file fault Usage = ⊥
 StopsReading file fault WriteFault = ⊥
+StopsReading file fault DiskFault = ⊥
+StopsReading file fault (Full end need) = ⊥
+StopsReading file fault (TooMany count) = ⊥
+StopsReading file fault InputTooLong = ⊥
 
 abbrev pub FileReads : File → Type 0 → Result Scanned Stop → Type 0
 FileReads file fault (Ok scanned) = IsFileReading file scanned

@@ -4,3 +4,7 @@ pub mod FileRead
 pub mod ListText
 pub mod ListRun
 pub mod Command
+pub mod InputRead
+pub mod Recording
+pub mod FileRecord
+pub mod PutRun

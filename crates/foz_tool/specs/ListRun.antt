@@ -3,7 +3,7 @@ use Rattle.std.specs.Prelude.{◌≡◌, ℕ, Bool, ◌++◌, take, Result, Ok, 
 use Rattle.disk_model.specs.Faults.{Rose}
 use Rattle.foz_archive.specs.declared.scanned.Scanned.{Scanned}
 use Rattle.foz_tool.specs.declared.stop.Stop.{Stop}
-use Rattle.foz_tool.specs.declared.stop.Stop.TheVariants.{Usage, ReadFault, WriteFault, Absent, Archive, Memory}
+use Rattle.foz_tool.specs.declared.stop.Stop.TheVariants.{Usage, ReadFault, WriteFault, DiskFault, Absent, Archive, Memory, Full, TooMany, InputTooLong}
 use Rattle.foz_tool.specs.FileRead.{IsFileReading, StopsReading}
 use Rattle.foz_tool.specs.ListText.{list_text, is_flawless as every_line_is_ok}
 use Rattle.foz_tool.specs.Status.{status_of}
@@ -37,6 +37,10 @@ ListEnds before after (Err ReadFault) = IsUnlisted before after ReadFault
 ListEnds before after (Err (Archive error)) = IsUnlisted before after (Archive error)
 ListEnds before after (Err Memory) = IsUnlisted before after Memory
 ListEnds before after (Err Usage) = ⊥
+ListEnds before after (Err DiskFault) = ⊥
+ListEnds before after (Err (Full end need)) = ⊥
+ListEnds before after (Err (TooMany count)) = ⊥
+ListEnds before after (Err InputTooLong) = ⊥
 
 -- `list` ended so, and answered the status of that
 pub record Lists (before after : View) (status : ℕ) : Type 0 where

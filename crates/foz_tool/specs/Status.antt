@@ -2,21 +2,32 @@
 use Rattle.std.specs.Prelude.{ℕ, Bool, if◌then◌else◌, Result, Ok, Err}
 use Rattle.foz_archive.specs.declared.refusal.ReadError.{ReadError}
 use Rattle.foz_archive.specs.declared.refusal.ReadError.TheVariants as read_errors
+use Rattle.foz_archive.specs.declared.opening.OpenCause.{OpenCause}
+use Rattle.foz_archive.specs.declared.opening.OpenCause.TheVariants as open_causes
 use Rattle.foz_tool.specs.declared.stop.Stop.{Stop}
-use Rattle.foz_tool.specs.declared.stop.Stop.TheVariants.{Usage, ReadFault, WriteFault, Absent, Archive, Memory}
+use Rattle.foz_tool.specs.declared.stop.Stop.TheVariants.{Usage, ReadFault, WriteFault, DiskFault, Absent, Archive, Memory, Full, TooMany, InputTooLong}
 
 abbrev pub stop_of_read : ReadError → Stop
 stop_of_read read_errors.DiskFault = ReadFault
 stop_of_read (read_errors.Archive error) = Archive error
 stop_of_read read_errors.Memory = Memory
 
+abbrev pub stop_of_open : OpenCause → Stop
+stop_of_open open_causes.DiskFault = DiskFault
+stop_of_open (open_causes.Archive error) = Archive error
+stop_of_open open_causes.Memory = Memory
+
 abbrev pub status_of_stop : Stop → ℕ
 status_of_stop Usage = 2
 status_of_stop ReadFault = 3
 status_of_stop WriteFault = 4
+status_of_stop DiskFault = 5
 status_of_stop Absent = 6
 status_of_stop (Archive error) = 6
 status_of_stop Memory = 7
+status_of_stop (Full end need) = 8
+status_of_stop (TooMany count) = 8
+status_of_stop InputTooLong = 10
 
 -- a command ends with its whole report, flawless or not, or it stops
 abbrev pub status_of : Result Bool Stop → ℕ

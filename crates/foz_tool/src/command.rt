@@ -1,15 +1,18 @@
 //! The words that ask for a command.
 ghost use Rattle.std.specs.Prelude.{◌≡◌, ◌↔◌, map, string_bytes, Some, None, IfOk};
-ghost use Rattle.foz_tool.specs.Command.{command_of, is_file};
+ghost use Rattle.foz_tool.specs.Command.{command_of, is_file, key_of_words};
 
-use foz_words::Name;
+use crate::number::number_upto;
+use foz_words::{Key, Name, read_hex16};
 
 /// What the words ask for.
 #[derive(Debug, Drop)]
 pub enum Command {
     List { file: Name },
+    Put { file: Name, key: Key },
 }
 
+/// Why words ask for nothing.
 #[derive(Clone, Copy, Debug, PartialEq, Eq)]
 pub enum ArgError {
     Usage,
@@ -26,6 +29,19 @@ fn is_file(word: &str) -> bool
     }
 }
 
+/// The key that a tag in decimal and a hash in sixteen hexadecimal digits spell.
+#[tactic(auto, unfolding(crate::specs::Command::key_of_words))]
+fn key_of_words(tag: &str, hash: &str) -> Option<Key>
+    ensures { result ≡ key_of_words tag.now hash.now }
+{
+    let tag = number_upto(u64::from(u32::MAX), tag)?;
+    let hash = read_hex16(hash.as_bytes())?;
+    Some(Key {
+        tag: tag as u32,
+        hash,
+    })
+}
+
 /// The command of the words after the program's name.
 #[tactic(auto, unfolding(crate::specs::Command::command_of))]
 pub fn command_of(words: &[String]) -> Result<Command, ArgError>
@@ -33,10 +49,20 @@ pub fn command_of(words: &[String]) -> Result<Command, ArgError>
     ensures usage { (result ≡ Err ArgError.Usage) ↔ (command_of (map string_bytes words.now) ≡ None) }
 {
     match words {
-        [verb, file] if verb.as_str() == "list" && is_file(file.as_str()) => {
+        [verb, file] if verb.as_str() == "list" && is_file(file.as_str()) => match file.clone() {
+            Ok(file) => Ok(Command::List {
+                file: Name::from_string(file),
+            }),
+            Err(_) => Err(ArgError::Memory),
+        },
+        [verb, file, tag, hash] if verb.as_str() == "put" && is_file(file.as_str()) => {
+            let Some(key) = key_of_words(tag.as_str(), hash.as_str()) else {
+                return Err(ArgError::Usage);
+            };
             match file.clone() {
-                Ok(file) => Ok(Command::List {
+                Ok(file) => Ok(Command::Put {
                     file: Name::from_string(file),
+                    key,
                 }),
                 Err(_) => Err(ArgError::Memory),
             }

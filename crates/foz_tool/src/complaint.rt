@@ -28,6 +28,7 @@ impl fmt::Display for Stop {
             Stop::Usage => write!(f, "usage"),
             Stop::ReadFault => write!(f, "read fault"),
             Stop::WriteFault => write!(f, "write fault"),
+            Stop::DiskFault => write!(f, "disk fault"),
             Stop::Absent => write!(f, "absent"),
             Stop::Archive(ArchiveError::BadMagic { len, bytes }) => {
                 let first = FirstBytes(&bytes[..(*len).min(16)]);
@@ -35,8 +36,12 @@ impl fmt::Display for Stop {
             }
             Stop::Archive(ArchiveError::BadVersion { v }) => write!(f, "bad version {v}"),
             Stop::Archive(ArchiveError::TooLong { len }) => write!(f, "too long {len}"),
-            Stop::Archive(ArchiveError::TooMany) => write!(f, "too many entries"),
+            Stop::Archive(ArchiveError::TooMany) | Stop::TooMany { count: _ } => {
+                write!(f, "too many entries")
+            }
             Stop::Memory => write!(f, "out of memory"),
+            Stop::Full { end, need } => write!(f, "full {end} {need}"),
+            Stop::InputTooLong => write!(f, "input too long"),
         }
     }
 }

@@ -1,12 +1,13 @@
 //! The outside of the program.
 ghost use Rattle.std.specs.Prelude.{ℕ, List};
-ghost use Rattle.foz_tool.specs.View.{View, file_of, faults_of};
+ghost use Rattle.foz_tool.specs.View.{View, file_of, faults_of, history_of};
 
-use disk_model::{Shelf, Sink};
+use disk_model::{Shelf, Sink, Source};
 
 /// What the program reads, writes and keeps its files in.
 #[derive(Drop)]
-pub struct Host<O, F> {
+pub struct Host<I, O, F> {
+    pub input: I,
     pub output: O,
     pub errors: O,
     pub files: F,
@@ -17,12 +18,15 @@ pub trait Seen {
     ghost view: { Self → List ℕ → View };
 }
 
-impl<O: Sink, F: Shelf> Seen for Host<O, F> {
+impl<I: Source, O: Sink, F: Shelf> Seen for Host<I, O, F> {
     ghost view = { λ host name. record {
       file = file_of F.Held.content (F.places host.files name);
+      history = history_of F.Held.history (F.places host.files name);
       disk_faults = faults_of F.Held.faults (F.places host.files name);
       shelf_faults = F.faults host.files;
       written = O.written host.output;
       output_faults = O.faults host.output;
+      input = I.left host.input;
+      input_faults = I.faults host.input;
     } };
 }

@@ -5,10 +5,15 @@ mod command;
 mod complaint;
 mod files;
 mod host;
+mod input;
 mod list;
 mod list_text;
+mod number;
 mod output;
 mod program;
+mod put;
+mod put_text;
+mod recording;
 mod statuses;
 mod stop;
 
@@ -16,7 +21,8 @@ pub use command::{ArgError, Command, command_of};
 pub use host::Host;
 pub use list::list_cmd;
 pub use program::run;
-pub use statuses::list_statuses;
+pub use put::put_cmd;
+pub use statuses::{list_statuses, put_statuses};
 
 #[cfg(test)]
 mod tests;

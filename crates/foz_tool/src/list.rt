@@ -2,7 +2,7 @@
 ghost use Rattle.std.specs.Prelude.{◌≡◌, ◌≢◌, ◌≤◌, Bool, Result};
 ghost use Rattle.disk_model.specs.Faults.{Rose};
 ghost use Rattle.disk_model.specs.Place.{out};
-ghost use Rattle.foz_tool.specs.View.{KeepsFiles};
+ghost use Rattle.foz_tool.specs.View.{KeepsFiles, PutsBack};
 ghost use Rattle.foz_tool.specs.ListRun.{ListEnds, Lists};
 
 use crate::complaint::complain;
@@ -11,15 +11,20 @@ use crate::host::{Host, Seen};
 use crate::list_text::push_list;
 use crate::output::write_all;
 use crate::stop::{Stop, status_of};
-use disk_model::{Failed, Shelf, Sink};
+use disk_model::{Failed, Shelf, Sink, Source};
 use foz_words::Name;
 use std::alloc::Global;
 
 /// Prints the text of a file, and says whether each line is `ok`.
-fn list<O: Sink, F: Shelf>(alloc: Global, host: &mut Host<O, F>, file: &str) -> Result<bool, Stop>
+fn list<I: Source, O: Sink, F: Shelf>(
+    alloc: Global,
+    host: &mut Host<I, O, F>,
+    file: &str,
+) -> Result<bool, Stop>
     requires here { F.tells → F.places host.old.files file.now ≢ out }
 
-    ensures ends { F.tells → F.Held.tells_content → O.tells → let view = ⟦<Host<O, F> as Seen>⟧.view in ListEnds (view host.old file.now) (view host.new file.now) result }
+    ensures ends { F.tells → F.Held.tells_content → O.tells → let view = ⟦<Host<I, O, F> as Seen>⟧.view in ListEnds (view host.old file.now) (view host.new file.now) result }
+    ensures back { F.tells → PutsBack (F.places host.old.files) (F.places host.new.files) }
     ensures kept { F.tells → F.Held.tells_content → KeepsFiles F.Held.content (F.places host.old.files) (F.places host.new.files) file.now }
     ensures write_fault { result ≡ Err Stop.WriteFault → Rose (O.faults host.old.output) (O.faults host.new.output) }
 {
@@ -33,10 +38,15 @@ fn list<O: Sink, F: Shelf>(alloc: Global, host: &mut Host<O, F>, file: &str) -> 
 }
 
 /// Prints a line for each entry of a file, and a line that says where they end.
-pub fn list_cmd<O: Sink, F: Shelf>(alloc: Global, host: &mut Host<O, F>, file: Name) -> u8
+pub fn list_cmd<I: Source, O: Sink, F: Shelf>(
+    alloc: Global,
+    host: &mut Host<I, O, F>,
+    file: Name,
+) -> u8
     requires here { F.tells → F.places host.old.files file ≢ out }
 
-    ensures ends { F.tells → F.Held.tells_content → O.tells → let view = ⟦<Host<O, F> as Seen>⟧.view in Lists (view host.old file) (view host.new file) result }
+    ensures ends { F.tells → F.Held.tells_content → O.tells → let view = ⟦<Host<I, O, F> as Seen>⟧.view in Lists (view host.old file) (view host.new file) result }
+    ensures back { F.tells → PutsBack (F.places host.old.files) (F.places host.new.files) }
     ensures kept { F.tells → F.Held.tells_content → KeepsFiles F.Held.content (F.places host.old.files) (F.places host.new.files) file }
     ensures write_fault { result ≡ 4 → Rose (O.faults host.old.output) (O.faults host.new.output) }
 {

@@ -4,35 +4,59 @@ ghost use Rattle.disk_model.specs.Faults.{Rose};
 ghost use Rattle.disk_model.specs.Place.{out};
 ghost use Rattle.foz_tool.specs.declared.command.Command.TheVariants as command;
 ghost use Rattle.foz_tool.specs.Command.{command_of};
-ghost use Rattle.foz_tool.specs.View.{KeepsFiles};
+ghost use Rattle.foz_words.specs.declared.key.Key.{Key};
+ghost use Rattle.foz_tool.specs.FileRecord.{IsSettledFile};
+ghost use Rattle.foz_tool.specs.View.{KeepsFiles, KeepsOthers};
 ghost use Rattle.foz_tool.specs.ListRun.{Lists};
+ghost use Rattle.foz_tool.specs.PutRun.{Puts, PutLeaves, IsFlushed};
 
 use crate::command::{ArgError, Command, command_of};
 use crate::complaint::complain;
+use crate::files::laws_of_disks;
 use crate::host::{Host, Seen};
 use crate::list::list_cmd;
+use crate::put::put_cmd;
 use crate::stop::Stop;
-use disk_model::{Shelf, Sink};
+use disk_model::{Shelf, Sink, Source};
 use std::alloc::Global;
 
 /// Does what the words ask for, and answers the status.
-pub fn run<O: Sink, F: Shelf>(alloc: Global, words: &[String], host: &mut Host<O, F>) -> u8
+pub fn run<I: Source, O: Sink, F: Shelf>(
+    alloc: Global,
+    words: &[String],
+    host: &mut Host<I, O, F>,
+) -> u8
     requires nothing_out { F.tells → (name : List ℕ) → F.places host.old.files name ≢ out }
 
     // Words that are no form of a command have status 2, and nothing happens.
     ensures usage { command_of (map string_bytes words.now) ≡ None → result ≡ 2 }
     ensures not_written { O.tells → command_of (map string_bytes words.now) ≡ None → O.written host.new.output ≡ O.written host.old.output }
+    ensures not_read { command_of (map string_bytes words.now) ≡ None → host.new.input ≡ host.old.input }
     ensures not_touched { F.tells → command_of (map string_bytes words.now) ≡ None → F.places host.new.files ≡ F.places host.old.files }
 
     ensures list { F.tells → F.Held.tells_content → O.tells → (file : List ℕ) → command_of (map string_bytes words.now) ≡ Some (command.List file)
-        → let view = ⟦<Host<O, F> as Seen>⟧.view in Lists (view host.old file) (view host.new file) result }
+        → let view = ⟦<Host<I, O, F> as Seen>⟧.view in Lists (view host.old file) (view host.new file) result }
     ensures list_keeps { F.tells → F.Held.tells_content → (file : List ℕ) → command_of (map string_bytes words.now) ≡ Some (command.List file)
         → KeepsFiles F.Held.content (F.places host.old.files) (F.places host.new.files) file }
 
+    ensures put { F.tells → F.Held.tells_content → O.tells → I.tells → (file : List ℕ) (key : Key) → command_of (map string_bytes words.now) ≡ Some (command.Put file key)
+        → let view = ⟦<Host<I, O, F> as Seen>⟧.view in Puts (view host.old file) (view host.new file) key result }
+    ensures put_leaves { F.tells → F.Held.tells_images → I.tells → (file : List ℕ) (key : Key) → command_of (map string_bytes words.now) ≡ Some (command.Put file key)
+        → let view = ⟦<Host<I, O, F> as Seen>⟧.view in PutLeaves (view host.old file) (view host.new file) key }
+    ensures put_durable { F.tells → F.Held.tells_images → (file : List ℕ) (key : Key) → command_of (map string_bytes words.now) ≡ Some (command.Put file key) → IsFlushed result
+        → IsSettledFile (⟦<Host<I, O, F> as Seen>⟧.view host.new file).history }
+    ensures put_keeps { F.tells → (file : List ℕ) (key : Key) → command_of (map string_bytes words.now) ≡ Some (command.Put file key)
+        → KeepsOthers (F.places host.old.files) (F.places host.new.files) file }
+
+    // A file that a command takes is put back.
+    ensures all_back { F.tells → (name : List ℕ) → F.places host.new.files name ≢ out }
+
     ensures write_fault { result ≡ 4 → Rose (O.faults host.old.output) (O.faults host.new.output) }
 {
+    laws_of_disks::<F::Held>();
     match command_of(words) {
         Ok(Command::List { file }) => list_cmd(alloc, host, file),
+        Ok(Command::Put { file, key }) => put_cmd(alloc, host, file, key),
         Err(ArgError::Usage) => {
             complain(alloc, &mut host.errors, &Stop::Usage);
             2

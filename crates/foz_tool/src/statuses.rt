@@ -1,14 +1,21 @@
 //! What the statuses of each command mean, as laws of how it ends.
-ghost use Rattle.std.specs.Prelude.{◌≡◌, ◌≤◌, ◌⊎◌, ℕ, List, ◌++◌, take, if◌then◌else◌};
+ghost use Rattle.std.specs.Prelude.{◌≡◌, ◌<◌, ◌≤◌, ◌⊎◌, ℕ, List, [], ◌++◌, length, take, if◌then◌else◌};
 ghost use Rattle.disk_model.specs.Faults.{Rose};
+ghost use Rattle.foz_words.specs.declared.key.Key.{Key};
+ghost use Rattle.foz_entry.specs.declared.cut.Entry.{Entry};
+ghost use Rattle.record_words.specs.Recorder.{reply_of};
+ghost use Rattle.record_words.specs.Alone.{after_record};
 ghost use Rattle.foz_archive.specs.declared.refusal.ArchiveError.{ArchiveError};
 ghost use Rattle.foz_archive.specs.declared.scanned.Scanned.{Scanned};
-ghost use Rattle.foz_archive.specs.Reading.{IsReading};
+ghost use Rattle.foz_archive.specs.Reading.{IsReading, Holds};
 ghost use Rattle.foz_archive.specs.Refusal.{IsRefusedBy};
 ghost use Rattle.foz_tool.specs.FileRead.{IsFileRefused};
 ghost use Rattle.foz_tool.specs.ListText.{list_text, is_flawless};
 ghost use Rattle.foz_tool.specs.View.{View, absent, holds, FileFaultRose};
 ghost use Rattle.foz_tool.specs.ListRun.{Lists};
+ghost use Rattle.foz_tool.specs.FileRecord.{bytes_of, IsRefusedIn};
+ghost use Rattle.foz_tool.specs.InputRead.{input_limit};
+ghost use Rattle.foz_tool.specs.PutRun.{Puts, IsUntouched, IsFlushed, IsArchiveFile, SaysFull, put_text, status_of_reply};
 
 /// The statuses of `list`.
 pub fn list_statuses()
@@ -31,4 +38,42 @@ pub fn list_statuses()
     ensures always_absent { (before after : View) (status : ℕ) → Lists before after status → before.file ≡ absent → (status ≡ 3) ⊎ (status ≡ 6) ⊎ (status ≡ 7) }
 
     ensures memory { (before after : View) (status : ℕ) → Lists before after status → status ≡ 7 → after.written ≡ before.written }
+{}
+
+/// The statuses of `put`.
+pub fn put_statuses()
+    ensures none_other { (before after : View) (key : Key) (status : ℕ) → Puts before after key status
+        → (status ≤ 1) ⊎ (status ≡ 3) ⊎ (status ≡ 4) ⊎ (status ≡ 5) ⊎ (status ≡ 6) ⊎ (status ≡ 7) ⊎ (status ≡ 8) ⊎ (status ≡ 10) }
+
+    // With 0 or 1 the line of the reply was written. 0 says that the payload is there under its key, now or already before.
+    ensures text { (before after : View) (key : Key) (status : ℕ) (entries : List Entry) → Puts before after key status → Holds (bytes_of before.file) entries → status ≤ 1
+        → (after.written ≡ before.written ++ put_text (reply_of entries key before.input)) × (status ≡ status_of_reply (reply_of entries key before.input)) }
+
+    // With 0, 1, 4 or 8 the input was read to its end, recorded and flushed.
+    ensures recorded { (before after : View) (key : Key) (status : ℕ) (entries : List Entry) → Puts before after key status → Holds (bytes_of before.file) entries → IsFlushed status
+        → (after.input ≡ []) × IsArchiveFile after.file (after_record entries key before.input) }
+
+    ensures read_fault { (before after : View) (key : Key) (status : ℕ) → Puts before after key status → status ≡ 3 → Rose before.input_faults after.input_faults × IsUntouched before after }
+
+    ensures write_fault { (before after : View) (key : Key) (status : ℕ) (entries : List Entry) → Puts before after key status → Holds (bytes_of before.file) entries → status ≡ 4
+        → Rose before.output_faults after.output_faults × ((count : ℕ) × (after.written ≡ before.written ++ take count (put_text (reply_of entries key before.input)))) }
+
+    ensures disk_fault { (before after : View) (key : Key) (status : ℕ) → Puts before after key status → status ≡ 5 → FileFaultRose before after × (after.written ≡ before.written) }
+
+    // 6 comes only where the file is there, is no new one and is refused, and it stays.
+    ensures refused { (before after : View) (key : Key) (status : ℕ) → Puts before after key status → status ≡ 6
+        → ((error : ArchiveError) × IsRefusedIn before.file after.file error) × (after.written ≡ before.written) }
+
+    ensures memory { (before after : View) (key : Key) (status : ℕ) → Puts before after key status → status ≡ 7 → after.written ≡ before.written }
+
+    // 8 comes only where the reply says that the archive is full, and then nothing else comes but a fault, want of memory
+    // or an input that is too long.
+    ensures full { (before after : View) (key : Key) (status : ℕ) (entries : List Entry) → Puts before after key status → Holds (bytes_of before.file) entries → status ≡ 8
+        → SaysFull (reply_of entries key before.input) × (after.written ≡ before.written) }
+    ensures always_full { (before after : View) (key : Key) (status : ℕ) (entries : List Entry) → Puts before after key status → Holds (bytes_of before.file) entries
+        → SaysFull (reply_of entries key before.input) → (status ≡ 3) ⊎ (status ≡ 5) ⊎ (status ≡ 7) ⊎ (status ≡ 8) ⊎ (status ≡ 10) }
+
+    // 10 comes only where the input is too long, and then nothing else comes but a fault of the input or want of memory.
+    ensures too_long { (before after : View) (key : Key) (status : ℕ) → Puts before after key status → status ≡ 10 → (input_limit < length before.input) × IsUntouched before after }
+    ensures always_too_long { (before after : View) (key : Key) (status : ℕ) → Puts before after key status → input_limit < length before.input → (status ≡ 3) ⊎ (status ≡ 7) ⊎ (status ≡ 10) }
 {}

@@ -1,20 +1,29 @@
 //! Why a command ends early, and the status of that.
 ghost use Rattle.std.specs.Prelude.{◌≡◌};
-ghost use Rattle.foz_tool.specs.declared.stop.Stop.TheVariants.{WriteFault, Memory};
-ghost use Rattle.foz_tool.specs.Status.{stop_of_read, status_of_stop};
+ghost use Rattle.foz_tool.specs.declared.stop.Stop.TheVariants.{Memory};
+ghost use Rattle.foz_tool.specs.Status.{stop_of_read, stop_of_open, status_of_stop};
 
-use foz_archive::{ArchiveError, ReadError};
+use foz_archive::{ArchiveError, OpenCause, ReadError};
 use foz_words::NoMemory;
 
 /// Why a command ends without its whole report.
 #[derive(Clone, Copy, Debug, PartialEq, Eq)]
 pub enum Stop {
     Usage,
+    /// The input, or a file that is only read.
     ReadFault,
+    /// The output.
     WriteFault,
+    /// A file that is written.
+    DiskFault,
     Absent,
     Archive(ArchiveError),
     Memory,
+    /// The archive ends at `end`, and an entry of `need` bytes has no room behind it.
+    Full { end: u64, need: u64 },
+    /// So many entries are there that no other has room.
+    TooMany { count: u32 },
+    InputTooLong,
 }
 
 impl From<NoMemory> for Stop {
@@ -37,6 +46,18 @@ impl From<ReadError> for Stop {
     }
 }
 
+impl From<OpenCause> for Stop {
+    ghost from_gives = { λ cause stop. stop ≡ stop_of_open cause };
+
+    fn from(cause: OpenCause) -> Stop {
+        match cause {
+            OpenCause::DiskFault => Stop::DiskFault,
+            OpenCause::Archive(error) => Stop::Archive(error),
+            OpenCause::Memory => Stop::Memory,
+        }
+    }
+}
+
 /// The status of a command that ends so.
 pub(crate) fn status_of(stop: &Stop) -> u8
     ensures { result ≡ status_of_stop stop.now }
@@ -45,7 +66,10 @@ pub(crate) fn status_of(stop: &Stop) -> u8
         Stop::Usage => 2,
         Stop::ReadFault => 3,
         Stop::WriteFault => 4,
+        Stop::DiskFault => 5,
         Stop::Absent | Stop::Archive(_) => 6,
         Stop::Memory => 7,
+        Stop::Full { .. } | Stop::TooMany { .. } => 8,
+        Stop::InputTooLong => 10,
     }
 }

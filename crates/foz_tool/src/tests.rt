@@ -1,6 +1,6 @@
 //! What contracts don't say: the printed texts, on files as they lie in the world, and failures in mid-stream.
 use super::*;
-use disk_model::{MemDisk, MemShelf, MemSink};
+use disk_model::{MemDisk, MemShelf, MemSink, MemSource};
 use std::alloc::Global;
 use std::process::Abort;
 use std::test::Fail;
@@ -41,14 +41,24 @@ fn joined(alloc: Global, front: &[u8], back: &[u8]) -> Result<Vec<u8>, Fail> {
     Ok(bytes)
 }
 
-/// One file with these bytes, which fails at these calls.
-fn one_file(alloc: Global, bytes: &[u8], failing: &[u64]) -> Result<Vec<(String, MemDisk)>, Fail> {
+/// One file with these bytes, on a disk of this room that fails at these calls.
+fn file_with_room(
+    alloc: Global,
+    bytes: &[u8],
+    room: u64,
+    failing: &[u64],
+) -> Result<Vec<(String, MemDisk)>, Fail> {
     let bytes = Vec::from_slice(alloc, bytes)?;
     let failing = Vec::from_slice(alloc, failing)?;
-    let disk = MemDisk::new(alloc, bytes, 1000, 1000, failing)?;
+    let disk = MemDisk::new(alloc, bytes, room, 1000, failing)?;
     let mut files = Vec::new(alloc);
     files.push((String::from_str(alloc, "a.foz")?, disk))?;
     Ok(files)
+}
+
+/// One file with these bytes, which fails at these calls.
+fn one_file(alloc: Global, bytes: &[u8], failing: &[u64]) -> Result<Vec<(String, MemDisk)>, Fail> {
+    file_with_room(alloc, bytes, 1000, failing)
 }
 
 /// The words that stand between blanks.
@@ -60,25 +70,69 @@ fn words_of(alloc: Global, text: &str) -> Result<Vec<String>, Fail> {
     Ok(words)
 }
 
-/// Runs the program over a shelf with these files and an output that fails at these calls.
+// No test has a longer input.
+const MOST_INPUT: usize = 134_217_728;
+
+/// What a run is given beside its files: the input, and the calls of the input and of the output that fail.
+#[derive(Clone, Copy)]
+struct Given<'a> {
+    input: &'a [u8],
+    input_failing: &'a [u64],
+    output_failing: &'a [u64],
+}
+
+const NOTHING: Given<'static> = Given {
+    input: b"",
+    input_failing: &[],
+    output_failing: &[],
+};
+
+/// Runs the program over a shelf with these files. Gives its answer and what stands in a.foz afterwards.
+fn run_on(
+    rt: &impl Abort,
+    alloc: Global,
+    words: &str,
+    files: Vec<(String, MemDisk)>,
+    given: Given<'_>,
+) -> Result<(Answer, Vec<u8>), Fail> {
+    let words = words_of(alloc, words)?;
+    let input = Vec::from_slice(alloc, given.input)?;
+    assert!(rt; input.len() <= MOST_INPUT);
+    let input_failing = Vec::from_slice(alloc, given.input_failing)?;
+    let output_failing = Vec::from_slice(alloc, given.output_failing)?;
+    let mut host = Host {
+        input: MemSource::new(input, 100_000, input_failing),
+        output: MemSink::new(alloc, 1000, 7, output_failing)?,
+        errors: MemSink::new(alloc, 1000, 7, Vec::new(alloc))?,
+        files: MemShelf::new(files, 1000, 1000, Vec::new(alloc)),
+    };
+    let status = run(alloc, words.as_slice(), &mut host);
+    let answer = Answer {
+        status,
+        output: text_of(alloc, host.output.written())?,
+        errors: text_of(alloc, host.errors.written())?,
+    };
+    let file = match host.files.get("a.foz") {
+        Some(disk) => Vec::from_slice(alloc, disk.content())?,
+        None => Vec::new(alloc),
+    };
+    Ok((answer, file))
+}
+
+/// Runs the program, whose output fails at these calls.
 fn answer_to(
+    rt: &impl Abort,
     alloc: Global,
     words: &str,
     files: Vec<(String, MemDisk)>,
     output_failing: &[u64],
 ) -> Result<Answer, Fail> {
-    let words = words_of(alloc, words)?;
-    let mut host = Host {
-        output: MemSink::new(alloc, 1000, 7, Vec::from_slice(alloc, output_failing)?)?,
-        errors: MemSink::new(alloc, 1000, 7, Vec::new(alloc))?,
-        files: MemShelf::new(files, 1000, 1000, Vec::new(alloc)),
+    let given = Given {
+        output_failing,
+        ..NOTHING
     };
-    let status = run(alloc, words.as_slice(), &mut host);
-    Ok(Answer {
-        status,
-        output: text_of(alloc, host.output.written())?,
-        errors: text_of(alloc, host.errors.written())?,
-    })
+    let (answer, _file) = run_on(rt, alloc, words, files, given)?;
+    Ok(answer)
 }
 
 fn expect(rt: &impl Abort, answer: &Answer, status: u8, output: &str, errors: &str) {
@@ -97,7 +151,7 @@ fn expect_list(
     output: &str,
 ) -> Result<(), Fail> {
     let file = joined(alloc, front, back)?;
-    let answer = answer_to(alloc, "list a.foz", one_file(alloc, &file, &[])?, &[])?;
+    let answer = answer_to(rt, alloc, "list a.foz", one_file(alloc, &file, &[])?, &[])?;
     expect(rt, &answer, status, output, "");
     Ok(())
 }
@@ -111,7 +165,7 @@ fn expect_refusal(
     errors: &str,
 ) -> Result<(), Fail> {
     let file = joined(alloc, front, back)?;
-    let answer = answer_to(alloc, "list a.foz", one_file(alloc, &file, &[])?, &[])?;
+    let answer = answer_to(rt, alloc, "list a.foz", one_file(alloc, &file, &[])?, &[])?;
     expect(rt, &answer, 6, "", errors);
     Ok(())
 }
@@ -215,7 +269,7 @@ fn refuses_what_is_no_archive(rt: HostRuntime) -> Result<(), Fail> {
     let none = Vec::new(alloc);
     expect(
         &rt,
-        &answer_to(alloc, "list a.foz", none, &[])?,
+        &answer_to(&rt, alloc, "list a.foz", none, &[])?,
         6,
         "",
         "foz: absent\n",
@@ -233,7 +287,7 @@ fn refuses_other_words(rt: HostRuntime) -> Result<(), Fail> {
         "lists a.foz",
         "list ",
     ] {
-        let answer = answer_to(alloc, words, one_file(alloc, HEADER, &[])?, &[])?;
+        let answer = answer_to(&rt, alloc, words, one_file(alloc, HEADER, &[])?, &[])?;
         expect(&rt, &answer, 2, "", "foz: usage\n");
     }
     Ok(())
@@ -243,13 +297,170 @@ fn refuses_other_words(rt: HostRuntime) -> Result<(), Fail> {
 fn a_fault_is_told(rt: HostRuntime) -> Result<(), Fail> {
     let alloc = rt.alloc();
     let file = joined(alloc, HEADER, EMPTY)?;
-    let at_once = answer_to(alloc, "list a.foz", one_file(alloc, &file, &[0])?, &[])?;
+    let at_once = answer_to(&rt, alloc, "list a.foz", one_file(alloc, &file, &[0])?, &[])?;
     expect(&rt, &at_once, 3, "", "foz: read fault\n");
-    let in_the_read = answer_to(alloc, "list a.foz", one_file(alloc, &file, &[1])?, &[])?;
+    let in_the_read = answer_to(&rt, alloc, "list a.foz", one_file(alloc, &file, &[1])?, &[])?;
     expect(&rt, &in_the_read, 3, "", "foz: read fault\n");
-    let no_output = answer_to(alloc, "list a.foz", one_file(alloc, HEADER, &[])?, &[0])?;
+    let no_output = answer_to(
+        &rt,
+        alloc,
+        "list a.foz",
+        one_file(alloc, HEADER, &[])?,
+        &[0],
+    )?;
     expect(&rt, &no_output, 4, "", "foz: write fault\n");
-    let cut_short = answer_to(alloc, "list a.foz", one_file(alloc, &file, &[])?, &[2])?;
+    let cut_short = answer_to(&rt, alloc, "list a.foz", one_file(alloc, &file, &[])?, &[2])?;
     expect(&rt, &cut_short, 4, "16 1 000000000", "foz: write fault\n");
+    Ok(())
+}
+
+/// `put` of an input to a file with these entries prints this, and leaves a file with those.
+fn expect_put(
+    rt: &impl Abort,
+    alloc: Global,
+    before: Vec<(String, MemDisk)>,
+    input: &[u8],
+    answer: (u8, &str),
+    entries: &[u8],
+) -> Result<(), Fail> {
+    let given = Given { input, ..NOTHING };
+    let (told, file) = run_on(rt, alloc, "put a.foz 1 0000000000000002", before, given)?;
+    expect(rt, &told, answer.0, answer.1, "");
+    assert_eq!(rt; file.as_slice(), closed(alloc, entries)?.as_slice());
+    Ok(())
+}
+
+/// An archive of these entries as a recorder leaves it, behind which the mark of its end stands.
+fn closed(alloc: Global, entries: &[u8]) -> Result<Vec<u8>, Fail> {
+    let open = joined(alloc, HEADER, entries)?;
+    joined(alloc, &open, b"\0")
+}
+
+#[test]
+fn puts_one_entry(rt: HostRuntime) -> Result<(), Fail> {
+    let alloc = rt.alloc();
+    let none = Vec::new(alloc);
+    expect_put(&rt, alloc, none, b"123456789", (0, "new 0\n"), NINE)?;
+    let held = closed(alloc, NINE)?;
+    let files = one_file(alloc, &held, &[])?;
+    expect_put(&rt, alloc, files, b"123456789", (0, "known 0\n"), NINE)?;
+    let files = one_file(alloc, &held, &[])?;
+    expect_put(&rt, alloc, files, b"12345678", (1, "collision 0\n"), NINE)
+}
+
+#[test]
+fn a_put_cuts_a_torn_tail(rt: HostRuntime) -> Result<(), Fail> {
+    let alloc = rt.alloc();
+    let torn = joined(alloc, HEADER, &NINE[..64])?;
+    let files = one_file(alloc, &torn, &[])?;
+    expect_put(&rt, alloc, files, b"123456789", (0, "new 0\n"), NINE)
+}
+
+#[test]
+fn a_put_tells_a_fault_of_the_disk(rt: HostRuntime) -> Result<(), Fail> {
+    let alloc = rt.alloc();
+    let mut failing = Vec::new(alloc);
+    for call in 0..100 {
+        failing.push(call)?;
+    }
+    let files = one_file(alloc, HEADER, &failing)?;
+    let (no_disk, _file) = run_on(&rt, alloc, "put a.foz 1 0000000000000002", files, NOTHING)?;
+    expect(&rt, &no_disk, 5, "", "foz: disk fault\n");
+    Ok(())
+}
+
+#[test]
+fn a_put_tells_a_fault_of_the_input(rt: HostRuntime) -> Result<(), Fail> {
+    let alloc = rt.alloc();
+    let given = Given {
+        input_failing: &[0],
+        ..NOTHING
+    };
+    let files = one_file(alloc, HEADER, &[])?;
+    let (unread, file) = run_on(&rt, alloc, "put a.foz 1 0000000000000002", files, given)?;
+    expect(&rt, &unread, 3, "", "foz: read fault\n");
+    assert_eq!(rt; file.as_slice(), HEADER);
+    Ok(())
+}
+
+#[test]
+fn what_a_put_could_not_say_is_kept(rt: HostRuntime) -> Result<(), Fail> {
+    let alloc = rt.alloc();
+    let given = Given {
+        input: b"123456789",
+        output_failing: &[0],
+        ..NOTHING
+    };
+    let files = one_file(alloc, HEADER, &[])?;
+    let (unsaid, file) = run_on(&rt, alloc, "put a.foz 1 0000000000000002", files, given)?;
+    expect(&rt, &unsaid, 4, "", "foz: write fault\n");
+    assert_eq!(rt; file.as_slice(), closed(alloc, NINE)?.as_slice());
+    Ok(())
+}
+
+#[test]
+fn a_put_refuses_what_is_no_archive(rt: HostRuntime) -> Result<(), Fail> {
+    let alloc = rt.alloc();
+    let files = one_file(alloc, &[255; 18], &[])?;
+    let (refused, file) = run_on(&rt, alloc, "put a.foz 1 0000000000000002", files, NOTHING)?;
+    let reason = "foz: bad magic ffffffffffffffffffffffffffffffff\n";
+    expect(&rt, &refused, 6, "", reason);
+    assert_eq!(rt; file.as_slice(), [255; 18].as_slice());
+    Ok(())
+}
+
+#[test]
+fn a_put_keeps_its_limits(rt: HostRuntime) -> Result<(), Fail> {
+    let alloc = rt.alloc();
+    let long = vec![in alloc; 0_u8; 16_777_217]?;
+    let none = Vec::new(alloc);
+    expect_put(&rt, alloc, none, &long, (1, "too large 16777217\n"), b"")?;
+    let too_long = vec![in alloc; 0_u8; 67_108_865]?;
+    let given = Given {
+        input: &too_long,
+        ..NOTHING
+    };
+    let none = Vec::new(alloc);
+    let (refused, file) = run_on(&rt, alloc, "put a.foz 1 0000000000000002", none, given)?;
+    expect(&rt, &refused, 10, "", "foz: input too long\n");
+    assert_eq!(rt; file.len(), 0);
+    Ok(())
+}
+
+#[test]
+fn refuses_other_keys(rt: HostRuntime) -> Result<(), Fail> {
+    let alloc = rt.alloc();
+    for words in [
+        "put a.foz 4294967296 0000000000000001",
+        "put a.foz +1 0000000000000001",
+        "put a.foz 1 000000000000001",
+        "put a.foz 1 000000000000000g",
+        "put a.foz 1",
+        "put -a.foz 1 0000000000000001",
+    ] {
+        let answer = answer_to(&rt, alloc, words, one_file(alloc, HEADER, &[])?, &[])?;
+        expect(&rt, &answer, 2, "", "foz: usage\n");
+    }
+    Ok(())
+}
+
+#[test]
+fn a_full_archive_takes_no_more(rt: HostRuntime) -> Result<(), Fail> {
+    let alloc = rt.alloc();
+    let mut file = Vec::with_capacity(alloc, 58_720_328)?;
+    file.extend_from_slice(HEADER)?;
+    for _ in 0..1_048_576 {
+        file.extend_from_slice(EMPTY)?;
+    }
+    let words = "put a.foz 1 0000000000000003";
+    let files = file_with_room(alloc, &file, 60_000_000, &[])?;
+    let (full, after) = run_on(&rt, alloc, words, files, NOTHING)?;
+    expect(&rt, &full, 8, "", "foz: too many entries\n");
+    file.push(0)?;
+    assert!(rt; after.as_slice() == file.as_slice());
+    file.pop();
+    file.extend_from_slice(EMPTY)?;
+    let many = answer_to(&rt, alloc, "list a.foz", one_file(alloc, &file, &[])?, &[])?;
+    expect(&rt, &many, 6, "", "foz: too many entries\n");
     Ok(())
 }
