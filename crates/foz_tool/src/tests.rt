@@ -22,6 +22,10 @@ const NINE_DAMAGED: &[u8] =
 const DEFLATE: &[u8] =
     b"0000000000000000000000040000000000000007\x02\0\0\0\x02\0\0\0\0\0\0\0\x64\0\0\0\x78\x9c";
 
+// The head of an entry of tag 2 and hash 7 with a payload of 16,777,216 bytes and without a checksum.
+const LARGE_HEAD: &[u8] =
+    b"0000000000000000000000020000000000000007\0\0\0\x01\x01\0\0\0\0\0\0\0\0\0\0\x01";
+
 /// What a command answers, and what stands on the output and the errors.
 #[derive(Drop)]
 struct Answer {
@@ -314,17 +318,18 @@ fn a_fault_is_told(rt: HostRuntime) -> Result<(), Fail> {
     Ok(())
 }
 
-/// `put` of an input to a file with these entries prints this, and leaves a file with those.
+/// `put` of an input to a file prints this, and leaves a file with those entries.
 fn expect_put(
     rt: &impl Abort,
     alloc: Global,
+    words: &str,
     before: Vec<(String, MemDisk)>,
     input: &[u8],
     answer: (u8, &str),
     entries: &[u8],
 ) -> Result<(), Fail> {
     let given = Given { input, ..NOTHING };
-    let (told, file) = run_on(rt, alloc, "put a.foz 1 0000000000000002", before, given)?;
+    let (told, file) = run_on(rt, alloc, words, before, given)?;
     expect(rt, &told, answer.0, answer.1, "");
     assert_eq!(rt; file.as_slice(), closed(alloc, entries)?.as_slice());
     Ok(())
@@ -339,21 +344,25 @@ fn closed(alloc: Global, entries: &[u8]) -> Result<Vec<u8>, Fail> {
 #[test]
 fn puts_one_entry(rt: HostRuntime) -> Result<(), Fail> {
     let alloc = rt.alloc();
+    let words = "put a.foz 1 0000000000000002";
     let none = Vec::new(alloc);
-    expect_put(&rt, alloc, none, b"123456789", (0, "new 0\n"), NINE)?;
+    let payload = b"123456789";
+    expect_put(&rt, alloc, words, none, payload, (0, "new 0\n"), NINE)?;
     let held = closed(alloc, NINE)?;
     let files = one_file(alloc, &held, &[])?;
-    expect_put(&rt, alloc, files, b"123456789", (0, "known 0\n"), NINE)?;
+    expect_put(&rt, alloc, words, files, payload, (0, "known 0\n"), NINE)?;
     let files = one_file(alloc, &held, &[])?;
-    expect_put(&rt, alloc, files, b"12345678", (1, "collision 0\n"), NINE)
+    let other = b"12345678";
+    expect_put(&rt, alloc, words, files, other, (1, "collision 0\n"), NINE)
 }
 
 #[test]
 fn a_put_cuts_a_torn_tail(rt: HostRuntime) -> Result<(), Fail> {
     let alloc = rt.alloc();
+    let words = "put a.foz 1 0000000000000001";
     let torn = joined(alloc, HEADER, &NINE[..64])?;
     let files = one_file(alloc, &torn, &[])?;
-    expect_put(&rt, alloc, files, b"123456789", (0, "new 0\n"), NINE)
+    expect_put(&rt, alloc, words, files, b"", (0, "new 0\n"), EMPTY)
 }
 
 #[test]
@@ -414,7 +423,16 @@ fn a_put_keeps_its_limits(rt: HostRuntime) -> Result<(), Fail> {
     let alloc = rt.alloc();
     let long = vec![in alloc; 0_u8; 16_777_217]?;
     let none = Vec::new(alloc);
-    expect_put(&rt, alloc, none, &long, (1, "too large 16777217\n"), b"")?;
+    let words = "put a.foz 1 0000000000000001";
+    expect_put(
+        &rt,
+        alloc,
+        words,
+        none,
+        &long,
+        (1, "too large 16777217\n"),
+        b"",
+    )?;
     let too_long = vec![in alloc; 0_u8; 67_108_865]?;
     let given = Given {
         input: &too_long,
@@ -462,5 +480,37 @@ fn a_full_archive_takes_no_more(rt: HostRuntime) -> Result<(), Fail> {
     file.extend_from_slice(EMPTY)?;
     let many = answer_to(&rt, alloc, "list a.foz", one_file(alloc, &file, &[])?, &[])?;
     expect(&rt, &many, 6, "", "foz: too many entries\n");
+    Ok(())
+}
+
+#[test]
+fn an_archive_is_filled_to_its_last_byte(rt: HostRuntime) -> Result<(), Fail> {
+    let alloc = rt.alloc();
+    let large = vec![in alloc; 0_u8; 16_777_216]?;
+    let mut file = Vec::with_capacity(alloc, 268_435_458)?;
+    file.extend_from_slice(HEADER)?;
+    for _ in 0..15 {
+        file.extend_from_slice(LARGE_HEAD)?;
+        file.extend_from_slice(&large)?;
+    }
+    let last = vec![in alloc; 0_u8; 16_776_304]?;
+    let given = Given {
+        input: &last,
+        ..NOTHING
+    };
+    let words = "put a.foz 1 0000000000000001";
+    let files = file_with_room(alloc, &file, 268_435_500, &[])?;
+    let (put, filled) = run_on(&rt, alloc, words, files, given)?;
+    expect(&rt, &put, 0, "new 15\n", "");
+    assert_eq!(rt; filled.len(), 268_435_457);
+    let words = "put a.foz 1 0000000000000002";
+    let files = one_file(alloc, &filled, &[])?;
+    let (full, after) = run_on(&rt, alloc, words, files, NOTHING)?;
+    expect(&rt, &full, 8, "", "foz: full 268435456 56\n");
+    assert!(rt; after.as_slice() == filled.as_slice());
+    let behind = vec![in alloc; 0_u8; 16_776_362]?;
+    file.extend_from_slice(&behind)?;
+    let long = answer_to(&rt, alloc, "list a.foz", one_file(alloc, &file, &[])?, &[])?;
+    expect(&rt, &long, 6, "", "foz: too long 268435458\n");
     Ok(())
 }
