@@ -1,7 +1,5 @@
-pub mod Lines
 pub mod Pieces
 pub mod ListStatuses
-pub mod Seen
 pub mod Numbers
 pub mod InputRead
 pub mod Replies

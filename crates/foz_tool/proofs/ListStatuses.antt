@@ -9,7 +9,7 @@ use Rattle.foz_archive.proofs.Unique.{IsReading-unique, never_both as read_or_re
 use Rattle.foz_tool.specs.declared.stop.Stop.{Stop}
 use Rattle.foz_tool.specs.declared.stop.Stop.TheVariants.{Usage, ReadFault, WriteFault, DiskFault, Absent, Archive, Memory, Full, TooMany, InputTooLong}
 use Rattle.foz_tool.specs.FileRead.{IsFileReading, IsFileRefused}
-use Rattle.foz_tool.specs.ListText.{list_text, is_flawless}
+use Rattle.foz_text.specs.ListText.{list_text, is_flawless}
 use Rattle.foz_tool.specs.View.{View, File, absent, holds, taken, FileFaultRose}
 use Rattle.foz_tool.specs.Status.{status_of}
 use Rattle.foz_tool.specs.ListRun.{ListEnds}

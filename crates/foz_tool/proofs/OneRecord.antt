@@ -1,12 +1,12 @@
 -- What a record on a disk leaves.
-use Rattle.std.proofs.Common.{◌≡◌, ◌⊎◌, inl, inr, ℕ, ◌+◌, ◌≤◌, List, [], ◌∷◌, ◌++◌, length, take, Result, Ok, Err, IfOk, IfErr, refl, sym, ap, ◌∙◌, subst, arith}
+use Rattle.std.proofs.Common.{◌≡◌, ◌⊎◌, inl, inr, ⊎_elim, ℕ, ◌+◌, ◌≤◌, List, [], ◌∷◌, ◌++◌, length, take, Result, Ok, Err, IfOk, IfErr, refl, sym, ap, ◌∙◌, subst, arith}
+use Rattle.std.proofs.Math.Seq.{take-length}
 use Rattle.disk_model.specs.Disk.{History, latest, IsImage, LeavesOnly, NothingPending}
 use Rattle.disk_model.specs.Faults.{Rose}
 use Rattle.disk_model.proofs.Moments.{leaves_only-weaken, then_runs}
 use Rattle.foz_words.specs.declared.key.Key.{Key}
 use Rattle.foz_entry.specs.declared.cut.Entry.{Entry}
-use Rattle.foz_archive.specs.Reading.{IsAccepted, Holds}
-use Rattle.foz_archive.specs.Kept.{IsSettled}
+use Rattle.foz_archive.specs.Reading.{Holds}
 use Rattle.foz_archive.specs.Opened.{HoldAlike}
 use Rattle.foz_archive.proofs.Opened.{still}
 use Rattle.foz_archive.proofs.Unique.{Holds-unique}
@@ -15,24 +15,26 @@ use Rattle.foz_archive.specs.declared.opening.OpenCause.TheVariants as causes
 use Rattle.record_words.specs.declared.note.RecordReply.{RecordReply}
 use Rattle.record_words.specs.Recorder.{reply_of}
 use Rattle.record_words.specs.Alone.{after_record}
+use Rattle.record_dedup.specs.Kept.{IsArchiveOf}
 use Rattle.foz_tool.specs.declared.stop.Stop.{Stop}
 use Rattle.foz_tool.specs.declared.stop.Stop.TheVariants.{DiskFault, Memory}
 use Rattle.foz_tool.specs.Status.{status_of_stop, stop_of_open}
 use Rattle.foz_tool.specs.PutRun.{IsFlushed}
-use Rattle.foz_tool.specs.Recording.{IsArchiveOf, HoldsWithOrWithout, RecordEnds}
+use Rattle.foz_tool.specs.Recording.{HoldsWithOrWithout, RecordEnds}
 use Rattle.foz_tool.proofs.Replies.{record_holds}
-
--- a settled archive is one of its entries
-pub archive_of : (tells_content tells_images : Type 0) (content : List ℕ) (history : History) (entries wanted : List Entry) (end : ℕ) → IsSettled tells_content tells_images content history entries end → tells_content
-    → entries ≡ wanted → IsArchiveOf content wanted
-archive_of tells_content tells_images content history entries wanted end settled told is =
-    subst (IsArchiveOf content) is (record { end = end; accepted = settled.accepted told; gate = settled.gate told })
 
 -- a commit behind a record
 pub commit_runs : (old new : History) (entries later : List Entry) (flushed : ℕ) (key : Key) (payload : List ℕ) → flushed ≡ length entries → later ≡ after_record entries key payload
     → LeavesOnly old new 4 (λ bytes. Holds bytes (take flushed later) ⊎ Holds bytes later) → LeavesOnly old new 4 (HoldsWithOrWithout entries key payload)
 commit_runs old new entries later flushed key payload counted is run =
     leaves_only-weaken old new 4 4 _ (HoldsWithOrWithout entries key payload) (omega arith) (record_holds entries key payload later flushed counted is) run
+
+-- a record that had no memory, behind an opening
+pub none_runs : (history : History) (entries : List Entry) (flushed : ℕ) (key : Key) (payload : List ℕ) → flushed ≡ length entries → LeavesOnly history history 4 (λ bytes. Holds bytes (take flushed entries) ⊎ Holds bytes entries)
+    → LeavesOnly history history 4 (HoldsWithOrWithout entries key payload)
+none_runs history entries flushed key payload counted run =
+    leaves_only-weaken history history 4 4 _ (HoldsWithOrWithout entries key payload) (omega arith)
+    (λ bytes holds. inl (⊎_elim (λ (some : Holds bytes (take flushed entries)). subst (Holds bytes) (ap (λ (n : ℕ). take n entries) counted ∙ take-length entries) some) (λ (every : Holds bytes entries). every) holds)) run
 
 -- no call at all
 pub rests : (history : History) (content : List ℕ) (entries : List Entry) (n : ℕ) (key : Key) (payload : List ℕ) → NothingPending (latest history) → content ≡ (latest history).now → Holds content entries

@@ -12,7 +12,8 @@ use Rattle.foz_tool.specs.declared.stop.Stop.{Stop}
 use Rattle.foz_tool.specs.declared.stop.Stop.TheVariants.{Usage, ReadFault, WriteFault, DiskFault, Absent, Archive, Memory, Full, TooMany, InputTooLong}
 use Rattle.foz_tool.specs.FileRecord.{IsRecordedIn, FileRecordEnds}
 use Rattle.foz_tool.specs.InputRead.{IsInputRead, StopsInput}
-use Rattle.foz_tool.specs.PutRun.{PutEnds, IsRecorded, IsPrinted, put_text}
+use Rattle.foz_text.specs.PutText.{put_text}
+use Rattle.foz_tool.specs.PutRun.{PutEnds, IsRecorded, IsPrinted}
 use Rattle.foz_tool.specs.View.{View, FileFaultRose}
 
 -- a record has one of the six replies of a recorder that isn't broken

@@ -15,9 +15,10 @@ use Rattle.record_words.specs.Alone.{after_record}
 use Rattle.foz_tool.specs.declared.stop.Stop.{Stop}
 use Rattle.foz_tool.specs.declared.stop.Stop.TheVariants.{Usage, ReadFault, WriteFault, DiskFault, Absent, Archive, Memory, Full, TooMany, InputTooLong}
 use Rattle.foz_tool.specs.FileRecord.{bytes_of, IsRefusedIn}
-use Rattle.foz_tool.specs.Recording.{IsArchiveOf}
+use Rattle.record_dedup.specs.Kept.{IsArchiveOf}
 use Rattle.foz_tool.specs.InputRead.{input_limit}
-use Rattle.foz_tool.specs.PutRun.{PutEnds, IsUntouched, IsFlushed, IsArchiveFile, IsRecorded, IsPrinted, SaysFull, put_text, status_of_reply, status_of_put}
+use Rattle.foz_text.specs.PutText.{put_text}
+use Rattle.foz_tool.specs.PutRun.{PutEnds, IsUntouched, IsFlushed, IsArchiveFile, IsRecorded, IsPrinted, SaysFull, status_of_reply, status_of_put}
 use Rattle.foz_tool.specs.View.{View, File, FileFaultRose}
 
 small : (reply : RecordReply) → status_of_reply reply ≤ 1

@@ -1,7 +1,6 @@
 pub mod View
 pub mod Status
 pub mod FileRead
-pub mod ListText
 pub mod ListRun
 pub mod Command
 pub mod InputRead

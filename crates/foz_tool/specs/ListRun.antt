@@ -5,7 +5,7 @@ use Rattle.foz_archive.specs.declared.scanned.Scanned.{Scanned}
 use Rattle.foz_tool.specs.declared.stop.Stop.{Stop}
 use Rattle.foz_tool.specs.declared.stop.Stop.TheVariants.{Usage, ReadFault, WriteFault, DiskFault, Absent, Archive, Memory, Full, TooMany, InputTooLong}
 use Rattle.foz_tool.specs.FileRead.{IsFileReading, StopsReading}
-use Rattle.foz_tool.specs.ListText.{list_text, is_flawless as every_line_is_ok}
+use Rattle.foz_text.specs.ListText.{list_text, is_flawless as every_line_is_ok}
 use Rattle.foz_tool.specs.Status.{status_of}
 use Rattle.foz_tool.specs.View.{View, FileFaultRose}
 

@@ -6,21 +6,14 @@ use Rattle.foz_entry.specs.declared.cut.Entry.{Entry}
 use Rattle.foz_archive.specs.declared.refusal.ArchiveError.{ArchiveError}
 use Rattle.record_words.specs.declared.note.RecordReply.{RecordReply}
 use Rattle.record_words.specs.declared.note.RecordReply.TheVariants as replies
+use Rattle.foz_text.specs.PutText.{put_text}
 use Rattle.foz_tool.specs.declared.stop.Stop.{Stop}
 use Rattle.foz_tool.specs.declared.stop.Stop.TheVariants as stop
 use Rattle.foz_tool.specs.FileRecord.{IsRecordedIn, IsRefusedIn, FileLeaves}
 use Rattle.foz_tool.specs.InputRead.{IsInputRead, input_limit}
 use Rattle.foz_tool.specs.Status.{status_of_stop}
-use Rattle.foz_tool.specs.Recording.{IsArchiveOf}
+use Rattle.record_dedup.specs.Kept.{IsArchiveOf}
 use Rattle.foz_tool.specs.View.{View, File, FileFaultRose, holds}
-
--- the line of a reply; those that say that an archive is full have none
-unfoldable pub put_text : RecordReply → List ℕ
-put_text (replies.New index) = codes "new " ++ decimal index ++ codes "\n"
-put_text (replies.Known index) = codes "known " ++ decimal index ++ codes "\n"
-put_text (replies.Collision index) = codes "collision " ++ decimal index ++ codes "\n"
-put_text (replies.TooLarge size) = codes "too large " ++ decimal size ++ codes "\n"
-put_text reply = []
 
 -- the reply has a line
 abbrev pub IsPrinted : RecordReply → Type 0

@@ -1,24 +1,18 @@
 -- One record in an archive, and one flush.
 use Rattle.std.specs.Prelude.{◌≡◌, ℕ, ◌⊎◌, List, [], ◌∷◌, ◌++◌, Result, Ok, Err}
 use Rattle.disk_model.specs.Disk.{History, LeavesOnly}
-use Rattle.gate_append.specs.Gate.{IsClosedAt}
 use Rattle.foz_words.specs.declared.key.Key.{Key}
 use Rattle.foz_entry.specs.declared.cut.Entry.{Entry}
 use Rattle.foz_archive.specs.declared.refusal.ArchiveError.{ArchiveError}
-use Rattle.foz_archive.specs.Reading.{Holds, IsAccepted, IsNew}
+use Rattle.foz_archive.specs.Reading.{Holds, IsNew}
 use Rattle.foz_archive.specs.Refusal.{IsRefusedBy}
 use Rattle.record_words.specs.declared.note.RecordReply.{RecordReply}
 use Rattle.record_words.specs.Entries.{end_of, entry_of}
 use Rattle.record_words.specs.Recorder.{reply_of}
 use Rattle.record_words.specs.Alone.{after_record}
+use Rattle.record_dedup.specs.Kept.{IsArchiveOf}
 use Rattle.foz_tool.specs.declared.stop.Stop.{Stop}
 use Rattle.foz_tool.specs.declared.stop.Stop.TheVariants.{Usage, ReadFault, WriteFault, DiskFault, Absent, Archive, Memory, Full, TooMany, InputTooLong}
-
--- the bytes are an archive of these entries, and a closed gate ends them
-pub record IsArchiveOf (bytes : List ℕ) (entries : List Entry) : Type 0 where
-  pub end : ℕ
-  pub accepted : IsAccepted bytes entries end
-  pub gate : IsClosedAt end bytes
 
 -- a recorder replied this to the entries that the content held, and it is now an archive of what they become by that
 pub record IsRecordedOnce (before after : List ℕ) (key : Key) (payload : List ℕ) (reply : RecordReply) : Type 0 where

@@ -8,10 +8,10 @@ ghost use Rattle.foz_tool.specs.ListRun.{ListEnds, Lists};
 use crate::complaint::complain;
 use crate::files::read_file;
 use crate::host::{Host, Seen};
-use crate::list_text::push_list;
 use crate::output::write_all;
 use crate::stop::{Stop, status_of};
 use disk_model::{Failed, Shelf, Sink, Source};
+use foz_text::push_list;
 use foz_words::Name;
 use std::alloc::Global;
 

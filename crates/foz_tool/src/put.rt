@@ -2,18 +2,19 @@
 ghost use Rattle.std.specs.Prelude.{◌≡◌, ◌≢◌, ◌⊎◌, ◌++◌, ℕ, Result, IfErr, take, OnOk};
 ghost use Rattle.disk_model.specs.Faults.{Rose, HasCause};
 ghost use Rattle.disk_model.specs.Place.{out};
+ghost use Rattle.foz_text.specs.PutText.{put_text};
 ghost use Rattle.foz_tool.specs.FileRecord.{IsSettledFile};
 ghost use Rattle.foz_tool.specs.View.{KeepsOthers, PutsBack};
-ghost use Rattle.foz_tool.specs.PutRun.{PutEnds, PutLeaves, Puts, IsFlushed, put_text, status_of_reply, status_of_put};
+ghost use Rattle.foz_tool.specs.PutRun.{PutEnds, PutLeaves, Puts, IsFlushed, status_of_reply, status_of_put};
 
 use crate::complaint::complain;
 use crate::files::{laws_of_disks, record_in_file};
 use crate::host::{Host, Seen};
 use crate::input::read_input;
 use crate::output::write_all;
-use crate::put_text::push_reply;
 use crate::stop::{Stop, status_of};
 use disk_model::{Failed, Shelf, Sink, Source};
+use foz_text::push_put;
 use foz_words::{Key, Name};
 use record_words::RecordReply;
 use std::alloc::Global;
@@ -56,7 +57,7 @@ fn print_reply<O: Sink>(alloc: Global, output: &mut O, reply: &RecordReply) -> R
     ensures causes { IfErr result (λ stop. (stop ≡ Stop.WriteFault) ⊎ (stop ≡ Stop.Memory)) }
 {
     let mut line = Vec::new(alloc);
-    push_reply(alloc, &mut line, reply)?;
+    push_put(alloc, &mut line, reply)?;
     match write_all(output, &line) {
         Ok(()) => Ok(()),
         Err(Failed) => Err(Stop::WriteFault),

@@ -10,12 +10,13 @@ ghost use Rattle.foz_archive.specs.declared.scanned.Scanned.{Scanned};
 ghost use Rattle.foz_archive.specs.Reading.{IsReading, Holds};
 ghost use Rattle.foz_archive.specs.Refusal.{IsRefusedBy};
 ghost use Rattle.foz_tool.specs.FileRead.{IsFileRefused};
-ghost use Rattle.foz_tool.specs.ListText.{list_text, is_flawless};
+ghost use Rattle.foz_text.specs.ListText.{list_text, is_flawless};
 ghost use Rattle.foz_tool.specs.View.{View, absent, holds, FileFaultRose};
 ghost use Rattle.foz_tool.specs.ListRun.{Lists};
 ghost use Rattle.foz_tool.specs.FileRecord.{bytes_of, IsRefusedIn};
 ghost use Rattle.foz_tool.specs.InputRead.{input_limit};
-ghost use Rattle.foz_tool.specs.PutRun.{Puts, IsUntouched, IsFlushed, IsArchiveFile, SaysFull, put_text, status_of_reply};
+ghost use Rattle.foz_text.specs.PutText.{put_text};
+ghost use Rattle.foz_tool.specs.PutRun.{Puts, IsUntouched, IsFlushed, IsArchiveFile, SaysFull, status_of_reply};
 
 /// The statuses of `list`.
 pub fn list_statuses()

@@ -16,6 +16,7 @@ use Rattle.record_dedup.proofs.Ends.{accepted_ends}
 settled_rests : (tells_content tells_images : Type 0) (content : List ℕ) (history : History) (entries : List Entry) (end : ℕ) → IsSettled tells_content tells_images content history entries end
     → IsAtRest tells_content tells_images content history entries
 settled_rests tells_content tells_images content history entries end settled = record {
+  archive = λ told. record { end = end; accepted = settled.accepted told; gate = settled.gate told };
   held = λ told. inr (end, settled.accepted told);
   long = λ told. (settled.gate told).long ∙ ap (λ n. n + 1) (accepted_ends content entries end (settled.accepted told));
   settled = settled.durable;

@@ -3,7 +3,8 @@ use Rattle.std.specs.Prelude.{◌≡◌, ◌⊎◌, ℕ, ◌+◌, ◌≤◌, Boo
 use Rattle.disk_model.specs.Disk.{History, latest, IsImage, NothingPending, MightHaveLeft, GoesOn}
 use Rattle.disk_model.specs.Faults.{Rose}
 use Rattle.foz_entry.specs.declared.cut.Entry.{Entry}
-use Rattle.foz_archive.specs.Reading.{Holds}
+use Rattle.gate_append.specs.Gate.{IsClosedAt}
+use Rattle.foz_archive.specs.Reading.{Holds, IsAccepted}
 use Rattle.foz_archive.specs.Kept.{Archived}
 use Rattle.foz_archive.specs.declared.opening.OpenRefused.{OpenRefused}
 use Rattle.record_words.specs.declared.state.RecorderState.{RecorderState}
@@ -35,8 +36,15 @@ disk_of (Err refused) = refused.disk
 abbrev pub recorder_of : {D : Type 0} → Booked D → RecorderState
 recorder_of book = record { entries = book.entries; flushed = book.flushed; broken = book.broken }
 
--- where told: the file holds these entries, one byte stands behind them, and nothing is pending
+-- the bytes are an archive of these entries, and a closed gate ends them
+pub record IsArchiveOf (bytes : List ℕ) (entries : List Entry) : Type 0 where
+  pub end : ℕ
+  pub accepted : IsAccepted bytes entries end
+  pub gate : IsClosedAt end bytes
+
+-- where told: the file is an archive of these entries, one byte stands behind them, and nothing is pending
 pub record IsAtRest (tells_content tells_images : Type 0) (content : List ℕ) (history : History) (entries : List Entry) : Type 0 where
+  pub archive : tells_content → IsArchiveOf content entries
   pub held : tells_content → Holds content entries
   pub long : tells_content → length content ≡ end_of entries + 1
   pub settled : tells_images → NothingPending (latest history)

@@ -1,3 +1,8 @@
+ghost use Rattle.std.specs.Prelude.{◌≡◌};
+ghost use Rattle.record_dedup.specs.Steps.{reply_told};
+
+use record_words::RecordReply;
+
 /// A payload that stands in the book under its key.
 #[derive(Clone, Copy, Debug, PartialEq, Eq)]
 pub enum Ack {
@@ -30,4 +35,20 @@ pub enum FlushError {
     Broken,
     /// A call of the disk failed, and the book is broken from now on.
     DiskFault,
+}
+
+/// The reply that an answer to `record` tells, which want of memory doesn't.
+pub fn reply_told(answer: &Result<Ack, RecordError>) -> Option<RecordReply>
+    ensures { result ≡ reply_told answer.now }
+{
+    match *answer {
+        Ok(Ack::New { index }) => Some(RecordReply::New { index }),
+        Ok(Ack::Known { index }) => Some(RecordReply::Known { index }),
+        Err(RecordError::Broken) => Some(RecordReply::Broken),
+        Err(RecordError::TooLarge { size }) => Some(RecordReply::TooLarge { size }),
+        Err(RecordError::Collision { index }) => Some(RecordReply::Collision { index }),
+        Err(RecordError::Full { end, need }) => Some(RecordReply::Full { end, need }),
+        Err(RecordError::TooMany { count }) => Some(RecordReply::TooMany { count }),
+        Err(RecordError::Memory) => None,
+    }
 }

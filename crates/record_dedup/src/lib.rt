@@ -7,5 +7,5 @@ mod index;
 #[cfg(test)]
 mod tests;
 
-pub use ack::{Ack, FlushError, RecordError};
+pub use ack::{Ack, FlushError, RecordError, reply_told};
 pub use book::Book;

@@ -12,12 +12,12 @@ use Rattle.record_words.specs.Recorded.{Line, Answer, skipped, refused, read, pa
 use Rattle.record_words.specs.Alone.{grown_by, after_record, entries_alone, answers_alone}
 use Rattle.record_words.proofs.Places.{take_front}
 
-all_one : (j k : ℕ) → j % 1 ≡ k % 1
+pub all_one : (j k : ℕ) → j % 1 ≡ k % 1
 all_one j k = let a : j % 1 < 1 = mod-lt j (zero-lt-suc 0) in let b : k % 1 < 1 = mod-lt k (zero-lt-suc 0) in omega arith
 
 module _ {Cause : Type 0} where
   -- from greater lengths on
-  each_from : (before more later : List Entry) (lines : List (Line Cause)) (answers : List (Answer Cause)) → AllZip (IsAnswered before later) lines answers
+  pub each_from : (before more later : List Entry) (lines : List (Line Cause)) (answers : List (Answer Cause)) → AllZip (IsAnswered before later) lines answers
       → ((k : ℕ) (reply : RecordReply) (n : ℕ) → At answers k (replied reply n) → length more ≤ n) → AllZip (IsAnswered more later) lines answers
   each_from before more later [] [] all above = tt
   each_from before more later [] (a ∷ answers) all above = all
@@ -53,7 +53,7 @@ module _ {Cause : Type 0} where
       once = λ i low high. once_later i (other i low) (are.once i (let g : length before ≤ i = omega arith in g) high);
     }
 
-  reply_low : (before later : List Entry) (lines : List (Line Cause)) (answers : List (Answer Cause)) → AllZip (IsAnswered before later) lines answers → (k : ℕ) (reply : RecordReply) (n : ℕ) → At answers k (replied reply n) → length before ≤ n
+  pub reply_low : (before later : List Entry) (lines : List (Line Cause)) (answers : List (Answer Cause)) → AllZip (IsAnswered before later) lines answers → (k : ℕ) (reply : RecordReply) (n : ℕ) → At answers k (replied reply n) → length before ≤ n
   reply_low before later lines [] all k reply n at = absurd cc
   reply_low before later [] (a ∷ answers) all k reply n at = absurd all
   reply_low before later (skipped ∷ lines) (passed ∷ answers) all zero reply n at = absurd cc

@@ -7,6 +7,7 @@ ghost use Rattle.record_words.specs.declared.state.RecorderState.{RecorderState}
 ghost use Rattle.record_words.specs.Entries.{is_undamaged};
 ghost use Rattle.record_words.specs.Story.{At, AreApart, Answers, Legal, leads};
 ghost use Rattle.record_words.specs.Recorded.{Line, Answer, AreAnswers, Recorded, read, replied};
+ghost use Rattle.record_words.specs.Alone.{entries_alone, answers_alone};
 ghost use Rattle.record_words.specs.Placed.{Premises, answers_told};
 ghost use Rattle.record_words.specs.Added.{Element, AllStay, added_to, fresh, laid};
 
@@ -25,6 +26,12 @@ pub fn stories_make_records<Cause>()
 pub fn one_thread_has_one_record<Cause>()
     ensures { (text_of : List (Line Cause) → List (Answer Cause) → ℕ → List ℕ) (before later other : List Entry) (lines : List (Line Cause)) (text written : List ℕ)
         → Recorded text_of before lines 1 later text → Recorded text_of before lines 1 other written → (later ≡ other) × (text ≡ written) }
+{}
+
+/// Recording the lines in order is a record of one thread, and adds no key that is held already.
+pub fn lines_in_order_make_a_record<Cause>()
+    ensures recorded { (before : List Entry) (lines : List (Line Cause)) → AreAnswers before lines 1 (entries_alone before lines) (answers_alone before lines) }
+    ensures apart { (before : List Entry) (lines : List (Line Cause)) → AreApart before (entries_alone before lines) }
 {}
 
 /// What a legal story adds is undamaged, and no key is added that is held already. Stories are legal from their beginning

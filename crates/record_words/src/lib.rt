@@ -2,13 +2,15 @@
 //! by several threads.
 #![tactic(auto)]
 
+mod answered;
 mod laws;
 mod note;
 mod state;
 
+pub use answered::{Answered, LineAnswer};
 pub use laws::{
-    one_thread_has_one_record, stories_add_each_key_once, stories_make_records,
-    what_is_added_is_fresh,
+    lines_in_order_make_a_record, one_thread_has_one_record, stories_add_each_key_once,
+    stories_make_records, what_is_added_is_fresh,
 };
 pub use note::{FullNote, RecordCall, RecordNote, RecordReply};
 pub use state::RecorderState;

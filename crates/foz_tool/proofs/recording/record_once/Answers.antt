@@ -11,14 +11,14 @@ returns-in-Err-clause-early g c = open_early _ _ c.from.ensures
 
 pub returns-clause-ends : goal.returns-clause-ends
 returns-clause-ends g c = λ told.
-    rw c.into_disk.ensures (once_ends _ _ c.in-Ok.archive.entries _ _ (rose_since _ _ _ c.in-Ok.ensures.later) _ _ _ (c.in-Ok.ensures.held told) (c.record_and_commit-outcome.ensures.recorded told) c.record_and_commit-outcome.ensures.stopped)
+    rw c.close.ensures.disk (once_ends _ _ c.in-Ok.book.entries _ _ (rose_since _ _ _ c.in-Ok.ensures.later) _ _ _ (c.in-Ok.ensures.held told) (c.record_and_flush-outcome.ensures.recorded told) c.record_and_flush-outcome.ensures.stopped)
 
 pub returns-clause-leaves : goal.returns-clause-leaves
 returns-clause-leaves g c = λ told durable entries held.
-    rw c.into_disk.ensures (
-    record_runs _ _ durable (g.met.D.Disk.content_is_now c.args.disk told) entries held _ _ _ _ c.in-Ok.archive.entries (c.in-Ok.ensures.held (g.met.D.Disk.tells_both told))
-    (c.in-Ok.ensures.any_moment told) (c.record_and_commit-outcome.ensures.any_moment told)
+    rw c.close.ensures.disk (
+    record_runs _ _ durable (g.met.D.Disk.content_is_now c.args.disk told) entries held _ _ _ _ c.in-Ok.book.entries (c.in-Ok.ensures.held (g.met.D.Disk.tells_both told))
+    (c.in-Ok.ensures.any_moment told) (c.record_and_flush-outcome.ensures.any_moment told)
     )
 
 pub returns-clause-early : goal.returns-clause-early
-returns-clause-early g c = once_early _ _ c.record_and_commit-outcome.ensures.stopped
+returns-clause-early g c = once_early _ _ c.record_and_flush-outcome.ensures.stopped

@@ -1,0 +1,4 @@
+pub mod Fronts
+pub mod ListText
+pub mod PutText
+pub mod RecordText

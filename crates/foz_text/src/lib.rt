@@ -1,0 +1,16 @@
+//! The texts that the program prints on its output. Each call appends one text, or nothing where it is refused.
+#![tactic(auto)]
+
+mod cause;
+mod digits;
+mod list_text;
+mod put_text;
+mod record_text;
+
+pub use cause::CauseText;
+pub use list_text::push_list;
+pub use put_text::push_put;
+pub use record_text::push_record;
+
+#[cfg(test)]
+mod tests;

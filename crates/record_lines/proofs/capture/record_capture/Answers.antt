@@ -1,0 +1,34 @@
+use Rattle.std.proofs.Common.{◌∙◌, refl, sym, subst}
+use Rattle.disk_model.specs.Disk.{latest, NothingPending}
+use Rattle.record_lines.proofs.Images.{opening_leaves, book_leaves}
+use Rattle.record_lines.proofs.capture.record_capture.Goals as goal
+
+pub returns-in-Err-clause-leaves : goal.returns-in-Err-clause-leaves
+returns-in-Err-clause-leaves g c told durable =
+    opening_leaves _ _ _ durable (g.met.D.Disk.content_is_now c.args.disk told) _ (c.in-Err.ensures.any_moment told)
+
+pub returns-in-Ok-record_lines-clause-leaves : goal.returns-in-Ok-record_lines-clause-leaves
+returns-in-Ok-record_lines-clause-leaves g c told durable =
+    let d = g.D.Disk in
+    let both = g.met.D.Disk.tells_both told in
+    let same = c.record_lines.ensures.same in
+    let whole = c.in-Ok.ensures.whole in
+    rw c.close.ensures.disk (
+    book_leaves _ _ _ durable (g.met.D.Disk.content_is_now c.args.disk told) d.tells_content d.tells_images d.content d.history d.faults c.args.disk refl c.record_lines.new.book c.close.ensures.kept (same.0 ∙ whole.3)
+    c.in-Ok.book.entries (c.in-Ok.ensures.held both) (same.1 ∙ whole.0) (c.record_lines.ensures.front both) told
+    )
+
+pub returns-in-Ok-record_lines-clause-durable : goal.returns-in-Ok-record_lines-clause-durable
+returns-in-Ok-record_lines-clause-durable g c told ok =
+    subst (λ (d : _). NothingPending (latest (g.D.Disk.history d))) (sym c.close.ensures.disk) (c.in-Ok-record_lines.ensures.written.settled told)
+
+pub returns-in-Err-record_lines-clause-leaves : goal.returns-in-Err-record_lines-clause-leaves
+returns-in-Err-record_lines-clause-leaves g c told durable =
+    let d = g.D.Disk in
+    let both = g.met.D.Disk.tells_both told in
+    let same = c.record_lines.ensures.same in
+    let whole = c.in-Ok.ensures.whole in
+    rw c.close-in-Err-record_lines.ensures.disk (
+    book_leaves _ _ _ durable (g.met.D.Disk.content_is_now c.args.disk told) d.tells_content d.tells_images d.content d.history d.faults c.args.disk refl c.record_lines.new.book c.close-in-Err-record_lines.ensures.kept (same.0 ∙ whole.3)
+    c.in-Ok.book.entries (c.in-Ok.ensures.held both) (same.1 ∙ whole.0) (c.record_lines.ensures.front both) told
+    )

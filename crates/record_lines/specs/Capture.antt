@@ -1,0 +1,65 @@
+-- How the record of a capture in the archive on a disk ends, and what a crash leaves of it.
+use Rattle.std.specs.Prelude.{◌≡◌, ℕ, ◌≤◌, List, length, take, Result, Ok, Err}
+use Rattle.disk_model.specs.Disk.{History, GoesOn, MightHaveLeft}
+use Rattle.foz_entry.specs.declared.cut.Entry.{Entry}
+use Rattle.foz_archive.specs.declared.refusal.ArchiveError.{ArchiveError}
+use Rattle.foz_archive.specs.declared.opening.OpenCause.{OpenCause}
+use Rattle.foz_archive.specs.declared.opening.OpenCause.TheVariants as open_causes
+use Rattle.foz_archive.specs.Reading.{Holds, IsNew}
+use Rattle.foz_archive.specs.Refusal.{IsRefusedBy}
+use Rattle.record_words.specs.Recorded.{Line}
+use Rattle.record_dedup.specs.Kept.{IsArchiveOf}
+use Rattle.record_lines.specs.declared.recording.Report.{Report}
+use Rattle.record_lines.specs.declared.recording.RecordStop.{RecordStop}
+use Rattle.record_lines.specs.declared.recording.RecordStop.TheVariants as record_stops
+use Rattle.record_lines.specs.declared.capture.CaptureStop.{CaptureStop}
+use Rattle.record_lines.specs.declared.capture.CaptureStop.TheVariants.{Archive, DiskFault, Memory}
+use Rattle.record_lines.specs.Recording.{AreRecorded, IsFrontRecorded}
+
+abbrev pub stop_of_open : OpenCause → CaptureStop
+stop_of_open open_causes.DiskFault = DiskFault
+stop_of_open (open_causes.Archive error) = Archive error
+stop_of_open open_causes.Memory = Memory
+
+abbrev pub stop_of_lines : RecordStop → CaptureStop
+stop_of_lines record_stops.DiskFault = DiskFault
+stop_of_lines record_stops.Memory = Memory
+
+-- the content is no new file's, is refused, and stays
+pub record IsLeftRefused (before after : List ℕ) (error : ArchiveError) : Type 0 where
+  pub refused : IsRefusedBy before error
+  pub not_new : ¬ IsNew before
+  pub same : after ≡ before
+
+-- the bytes hold the entries before and some of those behind them, in order
+abbrev pub HoldsFront : List Entry → List Entry → List ℕ → Type 0
+HoldsFront before later bytes = (n : ℕ) × (length before ≤ n) × (n ≤ length later) × Holds bytes (take n later)
+
+module _ {Cause : Type 0} where
+  -- the lines were recorded behind the entries that the content held, and it is now an archive of all of them
+  pub record IsCaptured (before after : List ℕ) (lines : List (Line Cause)) (report : Report Cause) : Type 0 where
+    pub entries : List Entry
+    pub held : Holds before entries
+    pub later : List Entry
+    pub recorded : AreRecorded entries lines 1 later report.answers
+    pub counted : report.entries ≡ length later
+    pub archive : IsArchiveOf after later
+
+  -- how it ends; `fault` says that a count of faults rose
+  abbrev pub CaptureEnds : List ℕ → List ℕ → Type 0 → List (Line Cause) → Result (Report Cause) CaptureStop → Type 0
+  CaptureEnds before after fault lines (Ok report) = IsCaptured before after lines report
+  CaptureEnds before after fault lines (Err (Archive error)) = IsLeftRefused before after error
+  CaptureEnds before after fault lines (Err DiskFault) = fault
+  CaptureEnds before after fault lines (Err Memory) = Unit {0}
+
+  -- A front of the lines was recorded, and a crash at each moment leaves the entries before and some of those that it
+  -- added, in order. So of two crashes one leaves a front of what the other leaves.
+  pub record LeavesFronts (entries : List Entry) (old new : History) (lines : List (Line Cause)) : Type 0 where
+    pub later : List Entry
+    pub recorded : IsFrontRecorded entries lines later
+    pub each : (bytes : List ℕ) → MightHaveLeft new old.moment bytes → HoldsFront entries later bytes
+
+  -- wherever it ends, of a content that held a list of entries
+  pub record CaptureLeaves (before : List ℕ) (old new : History) (lines : List (Line Cause)) : Type 0 where
+    pub goes_on : GoesOn old new
+    pub fronts : (entries : List Entry) → Holds before entries → LeavesFronts entries old new lines

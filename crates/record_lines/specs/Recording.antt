@@ -1,0 +1,21 @@
+-- What it is that lines were recorded, or some of them.
+use Rattle.std.specs.Prelude.{◌≡◌, ℕ, List, ◌++◌}
+use Rattle.foz_entry.specs.declared.cut.Entry.{Entry}
+use Rattle.record_words.specs.declared.answered.Answered.{Answered}
+use Rattle.record_words.specs.Recorded.{Line, Answer, AreAnswers}
+use Rattle.record_words.specs.Answered.{answered_from}
+use Rattle.record_words.specs.Alone.{entries_alone}
+
+module _ {Cause : Type 0} where
+  -- the lines were recorded by so many threads, and these are the answers to those that aren't skipped
+  pub record AreRecorded (before : List Entry) (lines : List (Line Cause)) (threads : ℕ) (later : List Entry) (answered : List (Answered Cause)) : Type 0 where
+    pub answers : List (Answer Cause)
+    pub are : AreAnswers before lines threads later answers
+    pub told : answered ≡ answered_from 1 lines answers
+
+  -- the entries are those after a front of the lines was recorded in order, and no other line
+  pub record IsFrontRecorded (before : List Entry) (lines : List (Line Cause)) (later : List Entry) : Type 0 where
+    pub done : List (Line Cause)
+    pub rest : List (Line Cause)
+    pub front : lines ≡ done ++ rest
+    pub entries : later ≡ entries_alone before done
