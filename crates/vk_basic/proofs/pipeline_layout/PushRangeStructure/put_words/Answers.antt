@@ -1,0 +1,9 @@
+use Rattle.vk_basic.specs.Tables as table
+use Rattle.vk_basic.specs.Plain as plain
+use Rattle.vk_form.specs.Writes.{done, then_field}
+use Rattle.vk_basic.proofs.pipeline_layout.PushRangeStructure.put_words.Goals as goal
+
+pub returns : goal.returns
+unfolding table.push_range plain.push_range
+returns c =
+    then_field c.number.ensures (then_field c.number-2.ensures (then_field c.number-3.ensures done))

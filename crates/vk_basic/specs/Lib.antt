@@ -1,0 +1,4 @@
+pub mod Tables
+pub mod Plain
+pub mod Made
+pub mod Back

@@ -1,0 +1,3 @@
+pub mod WordLaws
+pub mod Elements
+pub mod Writing

@@ -1,0 +1,9 @@
+use Rattle.std.proofs.Common.{take}
+use Rattle.std.specs.List.{flat_map}
+use Rattle.vk_form.specs.Shape.{number}
+use Rattle.vk_form.specs.Words.{words}
+use Rattle.vk_form.specs.Writes.{Writes}
+use Rattle.vk_form.proofs.writer.WordWriter.counted.Given as goal
+
+abbrev pub invariant-loop-byte : goal.invariant-loop-byte
+invariant-loop-byte l = Writes l.initial.self (flat_map (words number) (take l.byte-index l.content)) l.self

@@ -1,0 +1,9 @@
+use Rattle.vk_pipe.specs.Tables as table
+use Rattle.vk_pipe.specs.Plain as plain
+use Rattle.vk_form.specs.Writes.{done, then_field}
+use Rattle.vk_pipe.proofs.vertex.VertexBindingStructure.put_words.Goals as goal
+
+pub returns : goal.returns
+unfolding table.vertex_binding plain.vertex_binding
+returns c =
+    then_field c.number.ensures (then_field c.number-2.ensures (then_field c.number-3.ensures done))
