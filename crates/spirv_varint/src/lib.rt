@@ -3,10 +3,12 @@
 #![tactic(auto)]
 
 mod error;
+mod laws;
 mod reading;
 mod writing;
 
 pub use error::VarintError;
+pub use laws::one_reading;
 pub use reading::decode;
 pub use writing::{encode, one_shortest};
 
