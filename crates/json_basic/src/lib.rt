@@ -1,0 +1,12 @@
+//! The basic structures as JSON.
+#![tactic(auto)]
+
+mod pipeline_layout;
+mod sampler;
+mod set_layout;
+
+/// This crate, for its `impl`s of `Json`.
+pub struct Basic;
+
+#[cfg(test)]
+mod tests;

@@ -1,0 +1,11 @@
+use Rattle.vk_pass.specs.Tables as table
+use Rattle.vk_pass.specs.Plain as plain
+use Rattle.json_fold.specs.Steps.{done, then_field}
+use Rattle.json_pass.proofs.attachment.AttachmentJsonPass.read_fields.Goals as goal
+
+pub returns : goal.returns
+unfolding table.attachment plain.attachment
+returns c =
+    then_field c.number.ensures (then_field c.number-2.ensures (then_field c.number-3.ensures (then_field c.number-4.ensures (
+    then_field c.number-5.ensures (then_field c.number-6.ensures (then_field c.number-7.ensures (then_field c.number-8.ensures (
+    then_field c.number-9.ensures done))))))))

@@ -1,0 +1,12 @@
+use Rattle.vk_pipe.specs.Tables as table
+use Rattle.vk_pipe.specs.Plain as plain
+use Rattle.json_fold.proofs.Puts.{all_put, done, then_field}
+use Rattle.json_pipe.proofs.blend.BlendAttachmentJsonPipe.put_members.Goals as goal
+
+pub returns-clause-written : goal.returns-clause-written
+unfolding table.blend_attachment plain.blend_attachment
+returns-clause-written c =
+    all_put table.blend_attachment (plain.blend_attachment c.args.self.now) _ _ (
+    then_field c.in_ok-number.ensures.written (then_field c.in_ok-number-2.ensures.written (then_field c.in_ok-number-3.ensures.written (
+    then_field c.in_ok-number-4.ensures.written (then_field c.in_ok-number-5.ensures.written (then_field c.in_ok-number-6.ensures.written (
+    then_field c.in_ok-number-7.ensures.written (then_field c.in_ok-number-8.ensures.written done))))))))

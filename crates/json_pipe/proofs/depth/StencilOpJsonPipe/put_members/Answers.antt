@@ -1,0 +1,12 @@
+use Rattle.vk_pipe.specs.Tables as table
+use Rattle.vk_pipe.specs.Plain as plain
+use Rattle.json_fold.proofs.Puts.{all_put, done, then_field}
+use Rattle.json_pipe.proofs.depth.StencilOpJsonPipe.put_members.Goals as goal
+
+pub returns-clause-written : goal.returns-clause-written
+unfolding table.stencil_op plain.stencil_op
+returns-clause-written c =
+    all_put table.stencil_op (plain.stencil_op c.args.self.now) _ _ (
+    then_field c.in_ok-number.ensures.written (then_field c.in_ok-number-2.ensures.written (then_field c.in_ok-number-3.ensures.written (
+    then_field c.in_ok-number-4.ensures.written (then_field c.in_ok-number-5.ensures.written (then_field c.in_ok-number-6.ensures.written (
+    then_field c.in_ok-number-7.ensures.written done)))))))
