@@ -1,0 +1,9 @@
+pub mod Tables
+pub mod Plain
+pub mod Made
+pub mod Back
+pub mod Names
+pub mod Parts
+pub mod Meaning
+pub mod Payload
+pub mod Held

@@ -1,0 +1,12 @@
+pub mod ReadAs
+pub mod InText
+pub mod Size
+pub mod StringSize
+pub mod TokenSize
+pub mod TextSize
+pub mod Base64Size
+pub mod Weight
+pub mod BasicForth
+pub mod PassForth
+pub mod PipeForth
+pub mod StateSize
