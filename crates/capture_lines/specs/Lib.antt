@@ -1,0 +1,11 @@
+pub mod Causes
+pub mod Kinds
+pub mod Tables
+pub mod Plain
+pub mod Made
+pub mod Back
+pub mod Names
+pub mod Code
+pub mod Cutting
+pub mod Line
+pub mod Writing
