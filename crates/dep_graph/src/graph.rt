@@ -1,0 +1,57 @@
+ghost use Rattle.std.specs.Prelude.{◌≡◌, ◌≤◌, List, length, map, All, IfOk};
+ghost use Rattle.std.specs.List.{AllZip};
+ghost use Rattle.foz_entry.specs.declared.cut.Entry.{Entry};
+ghost use Rattle.record_words.specs.Entries.{most_entries};
+ghost use Rattle.replay_core.specs.Histories.{IsPlan};
+ghost use Rattle.dep_graph.specs.Classes.{AreClassesOf};
+ghost use Rattle.dep_graph.specs.Items.{item_places, item_entries, item_keys, DependsAs, HasItsSize};
+ghost use Rattle.dep_graph.specs.Surveys.{IsIndexOf, deps_held};
+
+use crate::class::Class;
+use crate::survey::{Survey, survey_of};
+use foz_entry::Entry;
+use foz_words::{Key, NoMemory, Row};
+use replay_core::{Dep, Plan};
+use std::alloc::Global;
+
+/// The dependency graph of an archive's entries.
+#[derive(Debug, Drop)]
+pub struct Graph {
+    /// What each item stands on.
+    pub plan: Plan,
+    /// The place of each item among the entries.
+    pub items: Row<u32>,
+    /// The class of each entry.
+    pub classes: Row<Class>,
+}
+
+/// The graph of an archive's entries, of which there are at most 1,048,576.
+pub fn plan_of(alloc: Global, entries: &[Entry]) -> Result<Graph, NoMemory>
+    requires few { length entries.now ≤ most_entries }
+    ensures classes { IfOk result (λ graph. AreClassesOf entries.now graph.classes) }
+    ensures items { IfOk result (λ graph. graph.items ≡ item_places graph.classes) }
+    ensures deps { IfOk result (λ graph. AllZip (DependsAs (item_keys entries.now graph.classes)) (item_entries entries.now graph.classes) graph.plan.deps) }
+
+    // A scheduler takes the plan.
+    ensures plan { IfOk result (λ graph. All HasItsSize entries.now → IsPlan graph.plan) }
+{
+    let survey = survey_of(alloc, entries)?;
+    let deps = all_deps(alloc, &survey)?;
+    Ok(Graph {
+        plan: Plan { deps },
+        items: survey.items,
+        classes: survey.classes,
+    })
+}
+
+/// What each item stands on.
+fn all_deps(alloc: Global, survey: &Survey) -> Result<Row<Row<Dep>>, NoMemory>
+    ensures { (entries : List Entry) → IsIndexOf ⟦<Key as PartialEq>⟧.eq survey.now.index entries → IfOk result (λ deps. deps ≡ map (deps_held entries survey.now.classes) survey.now.refs) }
+{
+    let rows = survey.refs.as_slice();
+    let mut deps = Vec::with_capacity(alloc, rows.len())?;
+    for refs in rows {
+        deps.push(survey.deps_on(alloc, refs.as_slice())?)?;
+    }
+    Ok(Row::from_vec(deps))
+}

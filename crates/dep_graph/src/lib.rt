@@ -1,0 +1,12 @@
+//! The dependency graph of an archive: what class each entry has, and on which items each item stands.
+#![tactic(auto)]
+
+mod class;
+mod graph;
+mod survey;
+
+pub use class::Class;
+pub use graph::{Graph, plan_of};
+
+#[cfg(test)]
+mod tests;
