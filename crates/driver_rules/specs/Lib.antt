@@ -1,0 +1,9 @@
+pub mod Rules
+pub mod Numbers
+pub mod Sampler
+pub mod SetLayout
+pub mod PipelineLayout
+pub mod RenderPass
+pub mod Stage
+pub mod Graphics
+pub mod Modules
