@@ -14,6 +14,18 @@ pub trait Listed {
     ghost failing: { Self → List ℕ };
 }
 
+/// An object in memory that takes bytes up to a bound.
+pub trait Bounded {
+    /// How many bytes it takes in all.
+    ghost room: { Self → ℕ };
+}
+
+/// An object in memory that bears some calls, and fails at each later one.
+pub trait Limited {
+    /// How many calls it bears.
+    ghost limit: { Self → ℕ };
+}
+
 #[derive(Drop)]
 pub(crate) struct CallCount {
     made: u64,

@@ -6,6 +6,7 @@ ghost use Rattle.disk_model.specs.Faults.{Rose, HasCause};
 ghost use Rattle.disk_model.specs.Memory.{FailsAt, after_calls, bytes_written, history_of, state_of};
 
 use crate::call::Call;
+use crate::call_count::{Bounded, Limited, Listed};
 use crate::{Disk, Failed};
 use std::alloc::{AllocError, Global};
 
@@ -57,6 +58,10 @@ impl MemDisk {
         ensures settled { IfOk result (λ disk. NothingPending (latest (⟦<MemDisk as Disk>⟧.history disk))) }
         ensures moment { IfOk result (λ disk. (⟦<MemDisk as Disk>⟧.history disk).moment ≡ 0) }
         ensures faults { IfOk result (λ disk. ⟦<MemDisk as Disk>⟧.faults disk ≡ 0) }
+        ensures room { IfOk result (λ disk. ⟦<MemDisk as Bounded>⟧.room disk ≡ room) }
+        ensures limit { IfOk result (λ disk. ⟦<MemDisk as Limited>⟧.limit disk ≡ calls) }
+        ensures next { IfOk result (λ disk. ⟦<MemDisk as Listed>⟧.next disk ≡ 0) }
+        ensures listed { IfOk result (λ disk. ⟦<MemDisk as Listed>⟧.failing disk ≡ failing.items) }
     {
         let len = bytes.len();
         let size = len.max(room as usize);
@@ -95,6 +100,10 @@ impl MemDisk {
         ensures settled { NothingPending (latest (⟦<MemDisk as Disk>⟧.history result)) }
         ensures moment { (⟦<MemDisk as Disk>⟧.history result).moment ≡ 0 }
         ensures faults { ⟦<MemDisk as Disk>⟧.faults result ≡ 0 }
+        ensures room { ⟦<MemDisk as Bounded>⟧.room result ≡ ⟦<MemDisk as Bounded>⟧.room self }
+        ensures limit { ⟦<MemDisk as Limited>⟧.limit result ≡ ⟦<MemDisk as Limited>⟧.limit self }
+        ensures next { ⟦<MemDisk as Listed>⟧.next result ≡ 0 }
+        ensures listed { ⟦<MemDisk as Listed>⟧.failing result ≡ [] }
     {
         let MemDisk {
             mut first,
@@ -197,6 +206,20 @@ impl MemDisk {
     }
 }
 
+impl Bounded for MemDisk {
+    ghost room = { λ disk. disk.room };
+}
+
+impl Limited for MemDisk {
+    ghost limit = { λ disk. disk.limit };
+}
+
+impl Listed for MemDisk {
+    ghost next = { λ disk. disk.made };
+
+    ghost failing = { λ disk. disk.failing.items };
+}
+
 impl Disk for MemDisk {
     ghost use Rattle.disk_model.specs.Memory.{now_is_latest, image_is_latest};
 
@@ -259,7 +282,7 @@ impl Disk for MemDisk {
         ensures content { Unit {0} → self.new.bytes.items ≡ self.old.bytes.items }
         ensures images { Unit {0} → Syncs (history_of self.old.first.items self.old.calls.items self.old.pieces.items self.old.made) (history_of self.new.first.items self.new.calls.items self.new.pieces.items self.new.made) result }
         ensures cause { HasCause self.old.faults self.new.faults result }
-        ensures exact { IsErr result ↔ FailsAt self.old.made self.old.limit self.old.failing.items }
+        ensures exact { IsErr result ↔ FailsAt (⟦<MemDisk as Listed>⟧.next self.old) (⟦<MemDisk as Limited>⟧.limit self.old) (⟦<MemDisk as Listed>⟧.failing self.old) }
     {
         if self.fails_now() {
             return Err(self.fail());

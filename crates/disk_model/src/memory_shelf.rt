@@ -6,7 +6,7 @@ ghost use Rattle.disk_model.specs.Faults.{Rose};
 ghost use Rattle.disk_model.specs.Place.{missing, stored, out, with_place};
 ghost use Rattle.disk_model.specs.Filed.{items_of, spells, file_in, place_in};
 
-use crate::call_count::CallCount;
+use crate::call_count::{Bounded, CallCount, Limited, Listed};
 use crate::names_out::{NamesOut, insert_first};
 use crate::{Disk, MemDisk, Mode, Shelf, TakeError};
 use std::alloc::Global;
@@ -34,6 +34,10 @@ impl MemShelf {
         ensures places { ⟦<MemShelf as Shelf>⟧.places result ≡ file_in string_bytes files.items }
         ensures here { (name : List ℕ) → ⟦<MemShelf as Shelf>⟧.places result name ≢ out }
         ensures faults { ⟦<MemShelf as Shelf>⟧.faults result ≡ 0 }
+        ensures room { ⟦<MemShelf as Bounded>⟧.room result ≡ room }
+        ensures limit { ⟦<MemShelf as Limited>⟧.limit result ≡ calls }
+        ensures next { ⟦<MemShelf as Listed>⟧.next result ≡ 0 }
+        ensures listed { ⟦<MemShelf as Listed>⟧.failing result ≡ failing.items }
     {
         MemShelf {
             files,
@@ -96,6 +100,8 @@ impl MemShelf {
     fn make(&mut self, alloc: Global, name: &str) -> Result<MemDisk, TakeError>
         requires here { ⟦<MemShelf as Shelf>⟧.places self.old name.now ≢ out }
         ensures made { IfOk result (λ disk. IsMade (Unit {0}) (Unit {0}) (⟦<MemDisk as Disk>⟧.content disk) (⟦<MemDisk as Disk>⟧.history disk) (⟦<MemDisk as Disk>⟧.faults disk)) }
+        ensures room { IfOk result (λ disk. ⟦<MemDisk as Bounded>⟧.room disk ≡ ⟦<MemShelf as Bounded>⟧.room self.old) }
+        ensures limit { IfOk result (λ disk. ⟦<MemDisk as Limited>⟧.limit disk ≡ ⟦<MemShelf as Limited>⟧.limit self.old) }
         ensures now_out { OnOk result (⟦<MemShelf as Shelf>⟧.places self.new ≡ with_place (⟦<MemShelf as Shelf>⟧.places self.old) name.now out) }
         ensures left { OnErr result (⟦<MemShelf as Shelf>⟧.places self.new ≡ ⟦<MemShelf as Shelf>⟧.places self.old) }
         ensures memory { IfErr result (λ error. error ≡ TakeError.Memory) }
@@ -114,6 +120,22 @@ impl MemShelf {
         self.away.add(own);
         Ok(disk)
     }
+}
+
+// What a disk takes that is made here.
+impl Bounded for MemShelf {
+    ghost room = { λ shelf. shelf.room };
+}
+
+// How many calls a disk bears that is made here.
+impl Limited for MemShelf {
+    ghost limit = { λ shelf. shelf.calls };
+}
+
+impl Listed for MemShelf {
+    ghost next = { λ shelf. shelf.takes.made };
+
+    ghost failing = { λ shelf. shelf.takes.failing.items };
 }
 
 impl Shelf for MemShelf {

@@ -3,7 +3,7 @@ ghost use Rattle.std.specs.Prelude.{◌≡◌, ◌<◌, ◌≤◌, ◌++◌, [],
 ghost use Rattle.disk_model.specs.Faults.{HasCause};
 ghost use Rattle.disk_model.specs.Listed.{IsListed, next_number};
 
-use crate::call_count::{CallCount, Listed};
+use crate::call_count::{Bounded, CallCount, Listed};
 use crate::memory_disk::extend_within;
 use crate::{Failed, Sink};
 use std::alloc::{AllocError, Global};
@@ -34,6 +34,7 @@ impl MemSink {
         ensures faults { IfOk result (λ sink. ⟦<MemSink as Sink>⟧.faults sink ≡ 0) }
         ensures next { IfOk result (λ sink. ⟦<MemSink as Listed>⟧.next sink ≡ 0) }
         ensures listed { IfOk result (λ sink. ⟦<MemSink as Listed>⟧.failing sink ≡ failing.items) }
+        ensures room { IfOk result (λ sink. ⟦<MemSink as Bounded>⟧.room sink ≡ room) }
     {
         Ok(MemSink {
             written: Vec::with_capacity(alloc, room)?,
@@ -49,6 +50,10 @@ impl MemSink {
     {
         self.written.as_slice()
     }
+}
+
+impl Bounded for MemSink {
+    ghost room = { λ sink. sink.room };
 }
 
 impl Listed for MemSink {
@@ -73,6 +78,8 @@ impl Sink for MemSink {
         ensures listed_fails { IsListed (⟦<MemSink as Listed>⟧.failing self.old) (⟦<MemSink as Listed>⟧.next self.old) → IsErr result }
         ensures counted { ⟦<MemSink as Listed>⟧.next self.new ≡ next_number (⟦<MemSink as Listed>⟧.next self.old) }
         ensures listed { ⟦<MemSink as Listed>⟧.failing self.new ≡ ⟦<MemSink as Listed>⟧.failing self.old }
+        ensures room { ⟦<MemSink as Bounded>⟧.room self.new ≡ ⟦<MemSink as Bounded>⟧.room self.old }
+        ensures within { IfOk result (λ n. length (⟦<MemSink as Sink>⟧.written self.new) ≤ ⟦<MemSink as Bounded>⟧.room self.old) }
     {
         let taken = piece
             .len()
