@@ -42,7 +42,7 @@ use Rattle.capture_lines.specs.Plain as plain
 use Rattle.capture_lines.specs.Tables as table
 use Rattle.capture_lines.specs.Writing.{captured, line_object, line_text}
 use Rattle.capture_lines.specs.declared.kind.LineKind.TheVariants as kinds
-use Rattle.capture_lines.proofs.Depth.{is_within}
+use Rattle.json_fold.proofs.Depth.{is_within}
 use Rattle.capture_lines.proofs.Refusals.{kind_line}
 use Rattle.capture_lines.proofs.WordsOfKinds.{is_kept, is_cut_behind, is_known}
 

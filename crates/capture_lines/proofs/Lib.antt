@@ -1,7 +1,7 @@
 pub mod CodeLemmas
 pub mod CutLemmas
 pub mod Refusals
-pub mod Depth
 pub mod WordsOfKinds
 pub mod Modules
 pub mod Again
+pub mod Ordinary

@@ -2,7 +2,7 @@ pub mod FirstZero
 pub mod NoFloats
 pub mod Modules
 pub mod NoZero
-pub mod Depth
 pub mod Small
 pub mod Alone
 pub mod ReadBack
+pub mod Written

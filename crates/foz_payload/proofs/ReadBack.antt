@@ -54,7 +54,7 @@ use Rattle.foz_payload.specs.Parts.{json_part, behind_zero}
 use Rattle.foz_payload.specs.Meaning.{◌then◌, kind_of_tag, member_of, modules, of_parse, of_field, or_none, or_no_zero, only_object, found, object_in, plain_meaning, head_in, head_of, window_at, window_of, MeansWords, MeansHead, MeansBy, Means}
 use Rattle.foz_payload.specs.Held.{IsHeld, IsReadAgain, json_of}
 use Rattle.foz_payload.specs.Payload.{payload_value, module_object, member_of_state, object_of, payload}
-use Rattle.foz_payload.proofs.Depth.{member_within, structure_within}
+use Rattle.json_fold.proofs.Depth.{member_within, structure_within}
 use Rattle.foz_payload.proofs.NoZero.{NoZero, text_free, all_json, front_json, zero_there, behind_front}
 
 -- ---- the text

@@ -1,5 +1,5 @@
 -- The payload of a state.
-use Rattle.std.specs.Prelude.{ℕ, ◌*◌, List, [], ◌∷◌, ◌++◌, length, codes}
+use Rattle.std.specs.Prelude.{⊤, ℕ, ◌*◌, List, [], ◌∷◌, ◌++◌, length, codes}
 use Rattle.foz_words.specs.Hex.{hex_text}
 use Rattle.serde_json.specs.Data as json
 use Rattle.serde_json.specs.Data.{Data, no_members}
@@ -38,6 +38,11 @@ member_of_state (Compute s) = member_of kind.Compute
 abbrev pub object_of : State → Data
 object_of (ShaderModule m) = module_object m
 object_of state = written (struct (state_fields state)) (state_plain state)
+
+-- any state but a shader module
+abbrev pub IsPlain : State → Type 0
+IsPlain (ShaderModule m) = ⊥
+IsPlain state = ⊤
 
 -- what stands behind the JSON: for a shader module a zero byte and its words as varints
 abbrev pub tail_of : State → List ℕ

@@ -1,71 +1,80 @@
-ghost use Rattle.std.specs.Prelude.{◌≡◌, ◌^◌, ◌<◌, ◌∷◌, ◌++◌, IfOk, false, length};
+ghost use Rattle.std.specs.Prelude.{◌≡◌, ◌^◌, ◌<◌, ◌≤◌, ◌∷◌, ◌++◌, All, IfOk, OnOk, Ok, false, length};
 ghost use Rattle.serde_json.specs.View.{view};
 ghost use Rattle.serde_json.specs.Written.{compact_text, has_float};
 ghost use Rattle.spirv_varint.specs.Varint.{spelling};
-ghost use Rattle.vk_form.specs.Shape.{struct};
-ghost use Rattle.json_fold.specs.Written.{written};
-ghost use Rattle.state_words.specs.Words.{IsOrdinaryState};
-ghost use Rattle.foz_payload.specs.Meaning.{member_of, modules};
-ghost use Rattle.foz_payload.specs.Payload.{payload, payload_value, module_object};
+ghost use Rattle.state_words.specs.declared.state.State.TheVariants as states;
+ghost use Rattle.state_words.specs.Words.{IsOrdinaryState, key_of};
+ghost use Rattle.foz_payload.specs.Held.{IsReadAgain};
+ghost use Rattle.foz_payload.specs.Meaning.{Means};
+ghost use Rattle.foz_payload.specs.Payload.{IsPlain, payload, payload_value, module_object};
 
-use crate::kinds::{MODULES, member_of};
+use crate::kinds::{MODULES, member_of_state};
 use foz_words::{NoMemory, Row};
-use json_fold::{Json, ObjectWriter, hash_text};
+use json_fold::{ObjectWriter, hash_text};
 use serde_json::Value;
 use spirv_varint::encode;
-use state_json::JsonKind;
+use state_json::value_of;
 use state_words::{State, key_of};
 use std::alloc::Global;
 use vk_basic::ShaderModule;
 
 /// The payload of a state under its key: JSON with the state's object, and for a shader module a zero byte and the words
 /// of its code as varints. Each list, text and byte field of the state has fewer than 2^30 elements.
-#[tactic(auto, unfolding(crate::specs::Payload::payload))]
 pub fn payload_of(alloc: Global, state: &State) -> Result<Row<u8>, NoMemory>
     requires { IsOrdinaryState state.now }
-    ensures { IfOk result (λ row. row ≡ payload state.now) }
+    ensures written { IfOk result (λ row. row ≡ payload state.now) }
+    // What was written means the state. An entry holds no longer payload.
+    ensures read_back { IfOk result (λ row. length row ≤ 16_777_216 → Means (key_of state.now) row (Ok state.now)) }
 {
     let hash = key_of(state).hash;
     match state {
-        State::Sampler(sampler) => plain_payload(alloc, JsonKind::Sampler, hash, sampler),
-        State::SetLayout(layout) => plain_payload(alloc, JsonKind::SetLayout, hash, layout),
-        State::PipelineLayout(layout) => plain_payload(
-            alloc,
-            JsonKind::PipelineLayout,
-            hash,
-            layout,
-        ),
         State::ShaderModule(shader) => module_payload(alloc, hash, shader),
-        State::RenderPass(pass) => plain_payload(alloc, JsonKind::RenderPass, hash, pass),
-        State::Graphics(pipeline) => plain_payload(alloc, JsonKind::Graphics, hash, pipeline),
-        State::Compute(pipeline) => plain_payload(alloc, JsonKind::Compute, hash, pipeline),
+        _ => plain_payload(alloc, hash, state),
     }
 }
 
-/// The payload of a structure of this kind.
-fn plain_payload<Crate, S: Json<Crate>>(
-    alloc: Global,
-    kind: JsonKind,
-    hash: u64,
-    structure: &S,
-) -> Result<Row<u8>, NoMemory>
-    ensures { IfOk result (λ row. row ≡ compact_text (payload_value (member_of kind) hash (written (struct S.fields) (S.plain structure.now)))) }
+/// The payload of a state that isn't a shader module.
+fn plain_payload(alloc: Global, hash: u64, state: &State) -> Result<Row<u8>, NoMemory>
+    requires plain { IsPlain state.now }
+    requires hash { hash ≡ (key_of state.now).hash }
+    ensures written { IfOk result (λ row. row ≡ payload state.now) }
+    ensures read_back { IfOk result (λ row. length row ≤ 16_777_216 → Means (key_of state.now) row (Ok state.now)) }
 {
-    let object = structure.to_json(alloc)?;
-    Ok(Row::from_vec(text_of(alloc, member_of(kind), hash, object)?))
+    let value = value_of(alloc, state)?;
+    let Some(object) = value else { unreachable!() };
+    let text = text_of(alloc, member_of_state(state), hash, object)?;
+    Ok(Row::from_vec(text))
 }
 
 /// The payload of a shader module.
 fn module_payload(alloc: Global, hash: u64, shader: &ShaderModule) -> Result<Row<u8>, NoMemory>
-    requires { length shader.now.code < 2 ^ 30 }
-    ensures { IfOk result (λ row. row ≡ compact_text (payload_value modules hash (module_object shader.now)) ++ 0 ∷ spelling shader.now.code) }
+    requires words { length shader.now.code < 2 ^ 30 }
+    requires hash { hash ≡ (key_of (states.ShaderModule shader.now)).hash }
+    ensures written { IfOk result (λ row. row ≡ payload (states.ShaderModule shader.now)) }
+    ensures read_back { IfOk result (λ row. length row ≤ 16_777_216 → Means (key_of (states.ShaderModule shader.now)) row (Ok (states.ShaderModule shader.now))) }
 {
-    let varints = encode(alloc, shader.code.as_slice())?;
+    let varints = varints_of(alloc, shader.code.as_slice())?;
     let object = module_object(alloc, shader, varints.len() as u64)?;
     let mut bytes = Row::from_vec(text_of(alloc, MODULES, hash, object)?);
-    bytes.push(0)?;
-    bytes.extend(varints.as_slice())?;
+    put_varints(&mut bytes, varints.as_slice())?;
     Ok(bytes)
+}
+
+/// The words of a shader module as varints.
+fn varints_of(alloc: Global, words: &[u32]) -> Result<Row<u8>, NoMemory>
+    ensures spelled { IfOk result (λ bytes. bytes ≡ spelling words.now) }
+    ensures in_range { All (λ word. word < 2 ^ 32) words.now }
+{
+    encode(alloc, words)
+}
+
+/// Appends what stands behind the JSON of a shader module.
+fn put_varints(bytes: &mut Row<u8>, varints: &[u8]) -> Result<(), NoMemory>
+    ensures { OnOk result (bytes.new ≡ bytes.old ++ 0 ∷ varints.now) }
+{
+    bytes.push(0)?;
+    bytes.extend(varints)?;
+    Ok(())
 }
 
 /// The object of a shader module whose varints take so many bytes.
@@ -73,7 +82,8 @@ fn module_payload(alloc: Global, hash: u64, shader: &ShaderModule) -> Result<Row
 fn module_object(alloc: Global, shader: &ShaderModule, varint_size: u64) -> Result<Value, NoMemory>
     requires words { length shader.now.code < 2 ^ 30 }
     requires varints { varint_size ≡ length (spelling shader.now.code) }
-    ensures { IfOk result (λ value. view value ≡ module_object shader.now) }
+    ensures object { IfOk result (λ value. view value ≡ module_object shader.now) }
+    ensures flags { OnOk result (shader.now.flags < 2 ^ 32) }
 {
     let mut out = ObjectWriter::new(alloc);
     out.number("flags", shader.flags)?;
@@ -86,7 +96,8 @@ fn module_object(alloc: Global, shader: &ShaderModule, varint_size: u64) -> Resu
 /// The JSON of a payload, whose object stands under the member and the digits of the hash.
 fn text_of(alloc: Global, member: &str, hash: u64, object: Value) -> Result<Vec<u8>, NoMemory>
     requires { has_float (view object) ≡ false }
-    ensures { IfOk result (λ bytes. bytes.items ≡ compact_text (payload_value member.now hash (view object))) }
+    ensures text { IfOk result (λ bytes. bytes.items ≡ compact_text (payload_value member.now hash (view object))) }
+    ensures again { OnOk result (IsReadAgain (payload_value member.now hash (view object))) }
 {
     let value = payload_value(alloc, member, hash, object)?;
     let text = value.to_string(alloc)?;

@@ -4,3 +4,4 @@ pub mod Loop
 pub mod Puts
 pub mod RoundTrip
 pub mod Floats
+pub mod Depth

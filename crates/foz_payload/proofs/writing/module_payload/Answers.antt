@@ -1,22 +1,23 @@
-use Rattle.std.proofs.Common.{◌≡◌, ℕ, List, [], ◌∷◌, ◌++◌, ap, ◌∙◌, append_assoc}
-use Rattle.serde_json.specs.Written.{has_float, compact_text}
-use Rattle.serde_json.specs.Data.{Data}
+use Rattle.std.proofs.Common.{◌<◌, ◌^◌, ap, subst, ◌∙◌}
+use Rattle.std.specs.Prelude.{All}
+use Rattle.serde_json.specs.Written.{has_float}
 use Rattle.spirv_varint.specs.Varint.{spelling}
 use Rattle.vk_form.specs.Shape.{struct}
 use Rattle.json_fold.proofs.Floats.{written_has_no_float}
 use Rattle.foz_payload.specs.Tables as table
-use Rattle.foz_payload.specs.Payload.{module_object, payload_value}
-use Rattle.foz_payload.specs.Meaning.{modules}
+use Rattle.foz_payload.specs.Payload.{module_object}
+use Rattle.foz_payload.proofs.Written.{module_written, module_means}
 use Rattle.foz_payload.proofs.writing.module_payload.Goals as goal
 
 pub text_of-requires : goal.text_of-requires
 unfolding module_object
-text_of-requires c = ap has_float c.in_ok-object.ensures ∙ written_has_no_float (struct table.module_head) _
+text_of-requires c = ap has_float c.in_ok-object.ensures.object ∙ written_has_no_float (struct table.module_head) _
 
-pub returns : goal.returns
-returns c =
-    let text = compact_text (payload_value modules c.args.hash (module_object c.args.shader.now)) in
-    let json : c.from_vec-bytes.result ≡ text = c.from_vec-bytes.ensures ∙ c.in_ok-text_of.ensures ∙ ap (λ (d : Data). compact_text (payload_value modules c.args.hash d)) c.in_ok-object.ensures in
-    let zero = c.in_ok-push.ensures.ok ∙ ap (λ (l : List ℕ). l ++ 0 ∷ []) json in
-    let words = c.as_slice-2.ensures ∙ c.in_ok-varints.ensures.spelled ∙ ap (λ (l : List ℕ). spelling l) c.as_slice.ensures in
-    c.in_ok-extend.ensures.ok ∙ ap (λ (l : List ℕ). l ++ c.as_slice-2.result.now) zero ∙ ap (λ (l : List ℕ). (text ++ 0 ∷ []) ++ l) words ∙ append_assoc text (0 ∷ []) (spelling c.args.shader.now.code)
+pub returns-clause-written : goal.returns-clause-written
+returns-clause-written c =
+    module_written c.args.shader.now _ _ _ _ _ c.requires.hash c.in_ok-object.ensures.object (c.from_vec-bytes.ensures ∙ c.in_ok-text_of.ensures.text) c.in_ok-put_varints.ensures (c.as_slice-2.ensures ∙ c.in_ok-varints.ensures.spelled ∙ ap spelling c.as_slice.ensures)
+
+pub returns-clause-read_back : goal.returns-clause-read_back
+returns-clause-read_back c =
+    module_means c.args.shader.now _ _ _ _ _ c.requires.hash c.in_ok-object.ensures.object (c.from_vec-bytes.ensures ∙ c.in_ok-text_of.ensures.text) c.in_ok-put_varints.ensures (c.as_slice-2.ensures ∙ c.in_ok-varints.ensures.spelled ∙ ap spelling c.as_slice.ensures)
+    (subst (All (λ word. word < 2 ^ 32)) c.as_slice.ensures c.in_ok-varints.ensures.in_range) c.in_ok-object.ensures.flags c.in_ok-text_of.ensures.again

@@ -1,4 +1,4 @@
--- How deep the JSON of a structure nests.
+-- How deep the JSON of a structure nests: no deeper than its table.
 use Rattle.std.proofs.Common.{ℕ, suc, ◌≤◌, max, List, [], ◌∷◌, map, Option, Some, None, Ordering, Less, Equal, Greater, arith}
 use Rattle.std.specs.Ordering.{nat_cmp, match_ordering}
 use Rattle.std.specs.Cmp.Lexicographic.{slice_cmp}
@@ -8,6 +8,7 @@ use Rattle.serde_json.specs.View.{items_of}
 use Rattle.vk_form.specs.Shape.{Shape, number, unit, hash, text, bytes, four_units, list, struct, Fields, end, field, optional, Plain, Plains}
 use Rattle.json_fold.specs.Written.{written, with_member, with_optional, members_with}
 
+-- how deep the values of a shape nest at most
 abbrev mutual
   pub shape_depth : Shape → ℕ
   shape_depth number = 0
@@ -70,3 +71,6 @@ mutual
 
 pub structure_within : (fs : Fields) (x : Plains fs) → depth (written (struct fs) x) ≤ suc (fields_depth fs)
 structure_within fs x = written_within (struct fs) x
+
+pub is_within : (fs : Fields) (x : Plains fs) (n : ℕ) → shape_depth (struct fs) ≤ n → depth (written (struct fs) x) ≤ n
+is_within fs x n all = omega (arith, structure_within fs x)
