@@ -1,4 +1,5 @@
 pub mod Lines
 pub mod Seen
 pub mod Fronts
+pub mod HashLines
 pub mod RecordLines

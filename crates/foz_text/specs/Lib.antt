@@ -1,4 +1,6 @@
 pub mod Fronts
+pub mod HashText
 pub mod ListText
 pub mod PutText
 pub mod RecordText
+pub mod LineCause

@@ -49,7 +49,8 @@ fn is_known<C>(answered: &Answered<C>) -> bool
     }
 }
 
-fn is_refused<C>(answered: &Answered<C>) -> bool
+/// Is the line neither new nor known?
+pub fn is_refused<C>(answered: &Answered<C>) -> bool
     ensures { result ≡ is_refused answered.now }
 {
     match &answered.answer {
@@ -105,7 +106,7 @@ fn push_line<C: CauseText>(
 }
 
 /// Adds the line that says why a line of the capture can't be read.
-fn push_refused<C: CauseText>(
+pub(crate) fn push_refused<C: CauseText>(
     alloc: Global,
     out: &mut Vec<u8>,
     line: u32,

@@ -17,11 +17,11 @@ use Rattle.foz_tool.specs.View.{File, PutsBack, absent, holds, taken, file_of, f
 use Rattle.foz_tool.proofs.OneRecord.{rests}
 
 -- the empty file is new
-nothing_new : IsNew []
+pub nothing_new : IsNew []
 nothing_new = (omega arith, λ same. let e = ap length same in let h = length-header in absurd (omega arith))
 
 module _ {H : Type 0} (content : H → List ℕ) (before : Place H) (disk : H) (found : (before ≡ stored disk) ⊎ ((before ≡ missing) × (content disk ≡ []))) where
-  bytes_are : bytes_of (file_of content before) ≡ content disk
+  pub bytes_are : bytes_of (file_of content before) ≡ content disk
   bytes_are = elim found [
     | inl here ↦ ap (λ (p : Place H). bytes_of (file_of content p)) here
     | inr made ↦ ap (λ (p : Place H). bytes_of (file_of content p)) made.0 ∙ sym made.1

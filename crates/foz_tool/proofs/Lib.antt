@@ -5,5 +5,9 @@ pub mod InputRead
 pub mod Replies
 pub mod OneRecord
 pub mod FileRecord
+pub mod CaptureFile
 pub mod PutEnds
 pub mod PutStatuses
+pub mod RecordEnds
+pub mod RecordStatuses
+pub mod HashStatuses

@@ -70,7 +70,7 @@ pub rose_since : (before mid after : ℕ) → before ≤ mid → Rose mid after 
 rose_since before mid after le rose = omega arith
 
 -- the statuses of a record that was given up aren't those of one that was flushed
-not_flushed : (status : ℕ) → 5 ≤ status → status ≤ 7 → ¬ IsFlushed status
+pub not_flushed : (status : ℕ) → 5 ≤ status → status ≤ 7 → ¬ IsFlushed status
 not_flushed status low high (inl is) = absurd (omega arith)
 not_flushed status low high (inr (inl is)) = absurd (omega arith)
 not_flushed status low high (inr (inr (inl is))) = absurd (omega arith)

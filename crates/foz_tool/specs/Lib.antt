@@ -1,9 +1,13 @@
 pub mod View
+pub mod Streams
 pub mod Status
 pub mod FileRead
 pub mod ListRun
 pub mod Command
 pub mod InputRead
+pub mod HashRun
 pub mod Recording
 pub mod FileRecord
 pub mod PutRun
+pub mod FileCapture
+pub mod RecordRun

@@ -4,6 +4,9 @@ use Rattle.foz_archive.specs.declared.refusal.ReadError.{ReadError}
 use Rattle.foz_archive.specs.declared.refusal.ReadError.TheVariants as read_errors
 use Rattle.foz_archive.specs.declared.opening.OpenCause.{OpenCause}
 use Rattle.foz_archive.specs.declared.opening.OpenCause.TheVariants as open_causes
+use Rattle.record_lines.specs.declared.capture.CaptureStop.{CaptureStop}
+use Rattle.record_lines.specs.declared.capture.CaptureStop.TheVariants as capture_stops
+use Rattle.record_lines.specs.declared.recording.Report.{Report}
 use Rattle.foz_tool.specs.declared.stop.Stop.{Stop}
 use Rattle.foz_tool.specs.declared.stop.Stop.TheVariants.{Usage, ReadFault, WriteFault, DiskFault, Absent, Archive, Memory, Full, TooMany, InputTooLong}
 
@@ -16,6 +19,15 @@ abbrev pub stop_of_open : OpenCause → Stop
 stop_of_open open_causes.DiskFault = DiskFault
 stop_of_open (open_causes.Archive error) = Archive error
 stop_of_open open_causes.Memory = Memory
+
+abbrev pub stop_of_capture : CaptureStop → Stop
+stop_of_capture (capture_stops.Archive error) = Archive error
+stop_of_capture capture_stops.DiskFault = DiskFault
+stop_of_capture capture_stops.Memory = Memory
+
+abbrev pub report_or_stop : {Cause : Type 0} → Result (Report Cause) CaptureStop → Result (Report Cause) Stop
+report_or_stop (Ok report) = Ok report
+report_or_stop (Err stopped) = Err (stop_of_capture stopped)
 
 abbrev pub status_of_stop : Stop → ℕ
 status_of_stop Usage = 2

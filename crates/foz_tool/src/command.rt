@@ -1,5 +1,5 @@
 //! The words that ask for a command.
-ghost use Rattle.std.specs.Prelude.{◌≡◌, ◌↔◌, map, string_bytes, Some, None, IfOk};
+ghost use Rattle.std.specs.Prelude.{◌≡◌, ◌↔◌, ℕ, List, map, string_bytes, Some, None, IfOk};
 ghost use Rattle.foz_tool.specs.Command.{command_of, is_file, key_of_words};
 
 use crate::number::number_upto;
@@ -10,6 +10,8 @@ use foz_words::{Key, Name, read_hex16};
 pub enum Command {
     List { file: Name },
     Put { file: Name, key: Key },
+    Hash,
+    Record { file: Name, threads: u32 },
 }
 
 /// Why words ask for nothing.
@@ -46,9 +48,11 @@ fn key_of_words(tag: &str, hash: &str) -> Option<Key>
 #[tactic(auto, unfolding(crate::specs::Command::command_of))]
 pub fn command_of(words: &[String]) -> Result<Command, ArgError>
     ensures read { IfOk result (λ command. command_of (map string_bytes words.now) ≡ Some command) }
+    ensures one_thread { (file : List ℕ) (threads : ℕ) → result ≡ Ok (Command.Record file threads) → threads ≡ 1 }
     ensures usage { (result ≡ Err ArgError.Usage) ↔ (command_of (map string_bytes words.now) ≡ None) }
 {
     match words {
+        [verb] if verb.as_str() == "hash" => Ok(Command::Hash),
         [verb, file] if verb.as_str() == "list" && is_file(file.as_str()) => match file.clone() {
             Ok(file) => Ok(Command::List {
                 file: Name::from_string(file),
@@ -67,6 +71,13 @@ pub fn command_of(words: &[String]) -> Result<Command, ArgError>
                 Err(_) => Err(ArgError::Memory),
             }
         }
+        [verb, file] if verb.as_str() == "record" && is_file(file.as_str()) => match file.clone() {
+            Ok(file) => Ok(Command::Record {
+                file: Name::from_string(file),
+                threads: 1,
+            }),
+            Err(_) => Err(ArgError::Memory),
+        },
         _ => Err(ArgError::Usage),
     }
 }

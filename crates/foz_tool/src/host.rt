@@ -1,5 +1,6 @@
 //! The outside of the program.
 ghost use Rattle.std.specs.Prelude.{ℕ, List};
+ghost use Rattle.foz_tool.specs.Streams.{Streams};
 ghost use Rattle.foz_tool.specs.View.{View, file_of, faults_of, history_of};
 
 use disk_model::{Shelf, Sink, Source};
@@ -13,9 +14,11 @@ pub struct Host<I, O, F> {
     pub files: F,
 }
 
-/// What contracts see of the outside where a command works on one file. No code is in it.
+/// What contracts see of the outside where a command works on one file, and where it works on none. No code is in it.
 pub trait Seen {
     ghost view: { Self → List ℕ → View };
+
+    ghost streams: { Self → Streams };
 }
 
 impl<I: Source, O: Sink, F: Shelf> Seen for Host<I, O, F> {
@@ -28,5 +31,12 @@ impl<I: Source, O: Sink, F: Shelf> Seen for Host<I, O, F> {
       output_faults = O.faults host.output;
       input = I.left host.input;
       input_faults = I.faults host.input;
+    } };
+
+    ghost streams = { λ host. record {
+      input = I.left host.input;
+      input_faults = I.faults host.input;
+      written = O.written host.output;
+      output_faults = O.faults host.output;
     } };
 }

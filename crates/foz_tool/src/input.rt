@@ -1,7 +1,7 @@
 //! The input of a command.
-ghost use Rattle.std.specs.Prelude.{◌≤◌, IfErr};
+ghost use Rattle.std.specs.Prelude.{◌≡◌, ◌≤◌, length, IfOk, IfErr};
 ghost use Rattle.disk_model.specs.Faults.{Rose};
-ghost use Rattle.foz_tool.specs.InputRead.{InputReads};
+ghost use Rattle.foz_tool.specs.InputRead.{InputReads, input_limit};
 ghost use Rattle.foz_tool.specs.Status.{status_of_stop};
 ghost use Rattle.foz_tool.specs.PutRun.{IsFlushed};
 
@@ -18,6 +18,8 @@ const PIECE: usize = 65_536;
 /// Reads the input to its end. It is read no further where it turns out to be too long.
 pub(crate) fn read_input<I: Source>(alloc: Global, input: &mut I) -> Result<Row<u8>, Stop>
     ensures reads { I.tells → InputReads (I.left input.old) (I.left input.new) (Rose (I.faults input.old) (I.faults input.new)) result }
+    ensures fault { result ≡ Err Stop.ReadFault → Rose (I.faults input.old) (I.faults input.new) }
+    ensures short { IfOk result (λ bytes. length bytes ≤ input_limit) }
     ensures early { IfErr result (λ stop. ¬ IsFlushed (status_of_stop stop)) }
     ensures later { I.faults input.old ≤ I.faults input.new }
 {

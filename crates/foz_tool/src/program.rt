@@ -7,15 +7,21 @@ ghost use Rattle.foz_tool.specs.Command.{command_of};
 ghost use Rattle.foz_words.specs.declared.key.Key.{Key};
 ghost use Rattle.foz_tool.specs.FileRecord.{IsSettledFile};
 ghost use Rattle.foz_tool.specs.View.{KeepsFiles, KeepsOthers};
+ghost use Rattle.foz_tool.specs.HashRun.{Hashes};
 ghost use Rattle.foz_tool.specs.ListRun.{Lists};
 ghost use Rattle.foz_tool.specs.PutRun.{Puts, PutLeaves, IsFlushed};
+ghost use Rattle.foz_tool.specs.RecordRun.{Records, RecordRunLeaves};
+ghost use Rattle.capture_reader.specs.Said.{lines_said};
+ghost use Rattle.foz_text.specs.LineCause.{line_cause_text};
 
 use crate::command::{ArgError, Command, command_of};
 use crate::complaint::complain;
 use crate::files::laws_of_disks;
+use crate::hash::hash_cmd;
 use crate::host::{Host, Seen};
 use crate::list::list_cmd;
 use crate::put::put_cmd;
+use crate::record::record_cmd;
 use crate::stop::Stop;
 use disk_model::{Shelf, Sink, Source};
 use std::alloc::Global;
@@ -48,6 +54,20 @@ pub fn run<I: Source, O: Sink, F: Shelf>(
     ensures put_keeps { F.tells → (file : List ℕ) (key : Key) → command_of (map string_bytes words.now) ≡ Some (command.Put file key)
         → KeepsOthers (F.places host.old.files) (F.places host.new.files) file }
 
+    ensures record { F.tells → F.Held.tells_content → O.tells → I.tells → (file : List ℕ) (threads : ℕ) → command_of (map string_bytes words.now) ≡ Some (command.Record file threads)
+        → let view = ⟦<Host<I, O, F> as Seen>⟧.view in Records line_cause_text lines_said (view host.old file) (view host.new file) result }
+    ensures record_leaves { F.tells → F.Held.tells_images → I.tells → (file : List ℕ) (threads : ℕ) → command_of (map string_bytes words.now) ≡ Some (command.Record file threads)
+        → let view = ⟦<Host<I, O, F> as Seen>⟧.view in RecordRunLeaves lines_said (view host.old file) (view host.new file) }
+    ensures record_durable { F.tells → F.Held.tells_images → (file : List ℕ) (threads : ℕ) → command_of (map string_bytes words.now) ≡ Some (command.Record file threads) → IsFlushed result
+        → IsSettledFile (⟦<Host<I, O, F> as Seen>⟧.view host.new file).history }
+    ensures record_keeps { F.tells → (file : List ℕ) (threads : ℕ) → command_of (map string_bytes words.now) ≡ Some (command.Record file threads)
+        → KeepsOthers (F.places host.old.files) (F.places host.new.files) file }
+
+    ensures hash { I.tells → O.tells → command_of (map string_bytes words.now) ≡ Some command.Hash
+        → let streams = ⟦<Host<I, O, F> as Seen>⟧.streams in Hashes (streams host.old) (streams host.new) result }
+    ensures hash_keeps { command_of (map string_bytes words.now) ≡ Some command.Hash → host.new.files ≡ host.old.files }
+    ensures hash_read_fault { command_of (map string_bytes words.now) ≡ Some command.Hash → result ≡ 3 → Rose (I.faults host.old.input) (I.faults host.new.input) }
+
     // A file that a command takes is put back.
     ensures all_back { F.tells → (name : List ℕ) → F.places host.new.files name ≢ out }
 
@@ -57,6 +77,8 @@ pub fn run<I: Source, O: Sink, F: Shelf>(
     match command_of(words) {
         Ok(Command::List { file }) => list_cmd(alloc, host, file),
         Ok(Command::Put { file, key }) => put_cmd(alloc, host, file, key),
+        Ok(Command::Hash) => hash_cmd(alloc, host),
+        Ok(Command::Record { file, threads }) => record_cmd(alloc, host, file, threads),
         Err(ArgError::Usage) => {
             complain(alloc, &mut host.errors, &Stop::Usage);
             2

@@ -1,10 +1,11 @@
 //! Why a command ends early, and the status of that.
 ghost use Rattle.std.specs.Prelude.{◌≡◌};
 ghost use Rattle.foz_tool.specs.declared.stop.Stop.TheVariants.{Memory};
-ghost use Rattle.foz_tool.specs.Status.{stop_of_read, stop_of_open, status_of_stop};
+ghost use Rattle.foz_tool.specs.Status.{stop_of_read, stop_of_open, stop_of_capture, status_of_stop};
 
 use foz_archive::{ArchiveError, OpenCause, ReadError};
 use foz_words::NoMemory;
+use record_lines::CaptureStop;
 
 /// Why a command ends without its whole report.
 #[derive(Clone, Copy, Debug, PartialEq, Eq)]
@@ -54,6 +55,18 @@ impl From<OpenCause> for Stop {
             OpenCause::DiskFault => Stop::DiskFault,
             OpenCause::Archive(error) => Stop::Archive(error),
             OpenCause::Memory => Stop::Memory,
+        }
+    }
+}
+
+impl From<CaptureStop> for Stop {
+    ghost from_gives = { λ stopped stop. stop ≡ stop_of_capture stopped };
+
+    fn from(stopped: CaptureStop) -> Stop {
+        match stopped {
+            CaptureStop::Archive(error) => Stop::Archive(error),
+            CaptureStop::DiskFault => Stop::DiskFault,
+            CaptureStop::Memory => Stop::Memory,
         }
     }
 }

@@ -1,4 +1,7 @@
 //! What contracts don't say: the printed texts, on files as they lie in the world, and failures in mid-stream.
+mod hash;
+mod record;
+
 use super::*;
 use disk_model::{MemDisk, MemShelf, MemSink, MemSource};
 use std::alloc::Global;
