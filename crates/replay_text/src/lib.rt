@@ -1,0 +1,15 @@
+//! The text of the commands that replay an archive: a line for each entry, and two that count.
+#![tactic(auto)]
+
+mod counts;
+mod digits;
+mod lines;
+mod overall;
+mod text;
+mod words;
+
+pub use overall::Overall;
+pub use text::push_replay;
+
+#[cfg(test)]
+mod tests;
