@@ -1,0 +1,45 @@
+use Rattle.std.proofs.Common.{ap, arith}
+use Rattle.replay_core.specs.Runs.{Setup}
+use Rattle.check_run.proofs.Driven.{going_first, all_checked, never_idle, started_inside, going_on, smaller}
+use Rattle.check_run.proofs.Picked.{number_inside}
+use Rattle.check_run.proofs.run.run_items.Goals as goal
+
+pub items-init : goal.items-init
+items-init g c = record { going = going_first g.R.Driver.creates (g.R.Driver.meaning c.args.driver.now) c.args.entries.now c.args.graph.now c.args.core.now c.requires.first }
+
+pub next-requires-clause-inside : goal.next-requires-clause-inside
+next-requires-clause-inside g c = let slots = ap (λ (s : Setup). s.slots) c.items.invariant.going.setup in omega (arith, slots)
+
+pub next-requires-clause-idle : goal.next-requires-clause-idle
+next-requires-clause-idle g c = c.items.invariant.going.idle
+
+pub returns-in-Finished : goal.returns-in-Finished
+returns-in-Finished g c =
+    all_checked g.R.Driver.creates (g.R.Driver.meaning c.args.driver.now) c.args.entries.now c.args.graph.now c.items.core c.next.new.self (g.R.Driver.meaning c.items.driver) c.items.invariant.going c.in-Finished.ensures.turn
+
+pub unreachable-requires : goal.unreachable-requires
+unreachable-requires g c =
+    never_idle g.R.Driver.creates (g.R.Driver.meaning c.args.driver.now) c.args.entries.now c.args.graph.now c.items.core c.next.new.self (g.R.Driver.meaning c.items.driver) c.items.invariant.going c.in-Idle.ensures.turn
+
+pub answer-requires-clause-graph : goal.answer-requires-clause-graph
+answer-requires-clause-graph g c = c.requires.graph
+
+pub answer-requires-clause-inside : goal.answer-requires-clause-inside
+answer-requires-clause-inside g c =
+    number_inside c.args.entries.now c.args.graph.now c.in-Work.item c.requires.graph
+    (started_inside g.R.Driver.creates (g.R.Driver.meaning c.args.driver.now) c.args.entries.now c.args.graph.now c.items.core c.next.new.self (g.R.Driver.meaning c.items.driver) c.in-Work.item c.items.invariant.going c.in-Work.ensures.turn)
+
+pub reply-requires : goal.reply-requires
+reply-requires g c = record { held = (c.in-Work.item, c.in-Work.ensures.slot) }
+
+pub items-preserved : goal.items-preserved
+items-preserved g c = record {
+  going =
+      going_on g.R.Driver.creates (g.R.Driver.meaning c.args.driver.now) c.args.entries.now c.args.graph.now c.items.core c.next.new.self c.reply.new.self (g.R.Driver.meaning c.items.driver) (g.R.Driver.meaning c.answer.new.driver) c.in-Work.item c.in_ok-code-in-Work.code c.items.invariant.going c.in-Work.ensures.turn c.in-Work.ensures.slot
+      c.in_ok-code-in-Work.ensures (c.reply.ensures c.in-Work.item c.in-Work.ensures.slot);
+}
+
+pub items-smaller : goal.items-smaller
+items-smaller g c =
+    smaller c.items.core c.next.new.self c.reply.new.self c.in-Work.item c.in_ok-code-in-Work.code c.in-Work.ensures.turn (c.reply.ensures c.in-Work.item c.in-Work.ensures.slot)
+    (omega (arith, c.room.ensures.never_passed, c.room.ensures.room))
