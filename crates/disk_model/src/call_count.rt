@@ -18,6 +18,9 @@ pub trait Listed {
 pub trait Bounded {
     /// How many bytes it takes in all.
     ghost room: { Self → ℕ };
+
+    /// How many of them are taken. What it was made with counts too.
+    ghost used: { Self → ℕ };
 }
 
 /// An object in memory that bears some calls, and fails at each later one.

@@ -31,7 +31,7 @@ pub use memory_sink::MemSink;
 pub use memory_source::MemSource;
 pub use ram_disk::RamDisk;
 pub use shelf::{Mode, Shelf, TakeError};
-pub use sink::Sink;
+pub use sink::{Sink, write_all};
 pub use source::Source;
 pub use std_streams::{StdSink, StdSource};
 pub use synced::{cut_synced, write_synced};

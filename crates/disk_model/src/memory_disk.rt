@@ -1,8 +1,9 @@
 // A disk in memory. It keeps what it held at first and each call since, so that it can tell what a crash might have
 // left at each moment.
-ghost use Rattle.std.specs.Prelude.{◌≡◌, ◌+◌, ◌<◌, ◌≤◌, [], ◌∷◌, ◌++◌, length, min, max, ℕ, take, slice_index, vec_len, vec_capacity, true, false, IfOk, IsErr, IsTrue, ◌↔◌};
-ghost use Rattle.disk_model.specs.Disk.{InRange, InSome, IsImage, NothingPending, Rests, Syncs, fresh, overwritten, latest};
+ghost use Rattle.std.specs.Prelude.{◌≡◌, ◌⊎◌, ◌+◌, ◌<◌, ◌≤◌, [], ◌∷◌, ◌++◌, length, min, max, ℕ, take, slice_index, slice_range, vec_len, vec_capacity, false, IfOk, OnOk, OnErr, IsErr, IsTrue, ◌↔◌};
+ghost use Rattle.disk_model.specs.Disk.{InRange, InSome, IsImage, NothingPending, Rests, Changes, Syncs, fresh, overwritten, after_write, after_cut, latest};
 ghost use Rattle.disk_model.specs.Faults.{Rose, HasCause};
+ghost use Rattle.disk_model.specs.Listed.{next_number};
 ghost use Rattle.disk_model.specs.Memory.{FailsAt, after_calls, bytes_written, history_of, state_of};
 
 use crate::call::Call;
@@ -59,6 +60,7 @@ impl MemDisk {
         ensures moment { IfOk result (λ disk. (⟦<MemDisk as Disk>⟧.history disk).moment ≡ 0) }
         ensures faults { IfOk result (λ disk. ⟦<MemDisk as Disk>⟧.faults disk ≡ 0) }
         ensures room { IfOk result (λ disk. ⟦<MemDisk as Bounded>⟧.room disk ≡ room) }
+        ensures used { IfOk result (λ disk. ⟦<MemDisk as Bounded>⟧.used disk ≡ length bytes.items) }
         ensures limit { IfOk result (λ disk. ⟦<MemDisk as Limited>⟧.limit disk ≡ calls) }
         ensures next { IfOk result (λ disk. ⟦<MemDisk as Listed>⟧.next disk ≡ 0) }
         ensures listed { IfOk result (λ disk. ⟦<MemDisk as Listed>⟧.failing disk ≡ failing.items) }
@@ -101,6 +103,7 @@ impl MemDisk {
         ensures moment { (⟦<MemDisk as Disk>⟧.history result).moment ≡ 0 }
         ensures faults { ⟦<MemDisk as Disk>⟧.faults result ≡ 0 }
         ensures room { ⟦<MemDisk as Bounded>⟧.room result ≡ ⟦<MemDisk as Bounded>⟧.room self }
+        ensures used { ⟦<MemDisk as Bounded>⟧.used result ≡ length (⟦<MemDisk as Disk>⟧.content result) }
         ensures limit { ⟦<MemDisk as Limited>⟧.limit result ≡ ⟦<MemDisk as Limited>⟧.limit self }
         ensures next { ⟦<MemDisk as Listed>⟧.next result ≡ 0 }
         ensures listed { ⟦<MemDisk as Listed>⟧.failing result ≡ [] }
@@ -172,7 +175,7 @@ impl MemDisk {
 
     // So many bytes more may be written.
     fn has_room(&self, more: usize) -> bool
-        ensures { result ≡ true → length self.now.first.items + length self.now.pieces.items + more ≤ self.now.room }
+        ensures { IsTrue result ↔ (length self.now.first.items + length self.now.pieces.items + more ≤ self.now.room) }
     {
         let used = self.first.len().saturating_add(self.pieces.len());
         used <= self.room && more <= self.room - used
@@ -184,6 +187,11 @@ impl MemDisk {
         ensures history { Rests (history_of self.old.first.items self.old.calls.items self.old.pieces.items self.old.made)
             (history_of self.new.first.items self.new.calls.items self.new.pieces.items self.new.made) }
         ensures faults { self.new.faults ≡ self.old.faults }
+        ensures made { self.new.made ≡ next_number self.old.made }
+        ensures listed { self.new.failing ≡ self.old.failing }
+        ensures limit { self.new.limit ≡ self.old.limit }
+        ensures room { self.new.room ≡ self.old.room }
+        ensures used { length self.new.first.items + length self.new.pieces.items ≡ length self.old.first.items + length self.old.pieces.items }
     {
         if self.made >= self.limit {
             self.made = self.made.saturating_add(1);
@@ -199,6 +207,11 @@ impl MemDisk {
         ensures history { Rests (history_of self.old.first.items self.old.calls.items self.old.pieces.items self.old.made)
             (history_of self.new.first.items self.new.calls.items self.new.pieces.items self.new.made) }
         ensures faults { (self.old.faults ≤ self.new.faults) × Rose self.old.faults self.new.faults }
+        ensures made { self.new.made ≡ next_number self.old.made }
+        ensures listed { self.new.failing ≡ self.old.failing }
+        ensures limit { self.new.limit ≡ self.old.limit }
+        ensures room { self.new.room ≡ self.old.room }
+        ensures used { length self.new.first.items + length self.new.pieces.items ≡ length self.old.first.items + length self.old.pieces.items }
     {
         self.rest();
         self.faults = self.faults.saturating_add(1);
@@ -208,6 +221,8 @@ impl MemDisk {
 
 impl Bounded for MemDisk {
     ghost room = { λ disk. disk.room };
+
+    ghost used = { λ disk. length disk.first.items + length disk.pieces.items };
 }
 
 impl Limited for MemDisk {
@@ -233,7 +248,18 @@ impl Disk for MemDisk {
 
     ghost faults = { λ m. m.faults };
 
-    fn len(&mut self) -> Result<u64, Failed> {
+    fn len(&mut self) -> Result<u64, Failed>
+        ensures length { IfOk result (λ len. len ≡ length (⟦<MemDisk as Disk>⟧.content self.old)) }
+        ensures content { ⟦<MemDisk as Disk>⟧.content self.new ≡ ⟦<MemDisk as Disk>⟧.content self.old }
+        ensures images { Rests (⟦<MemDisk as Disk>⟧.history self.old) (⟦<MemDisk as Disk>⟧.history self.new) }
+        ensures cause { HasCause (⟦<MemDisk as Disk>⟧.faults self.old) (⟦<MemDisk as Disk>⟧.faults self.new) result }
+        ensures exact { IsErr result ↔ FailsAt (⟦<MemDisk as Listed>⟧.next self.old) (⟦<MemDisk as Limited>⟧.limit self.old) (⟦<MemDisk as Listed>⟧.failing self.old) }
+        ensures counted { ⟦<MemDisk as Listed>⟧.next self.new ≡ next_number (⟦<MemDisk as Listed>⟧.next self.old) }
+        ensures listed { ⟦<MemDisk as Listed>⟧.failing self.new ≡ ⟦<MemDisk as Listed>⟧.failing self.old }
+        ensures limit { ⟦<MemDisk as Limited>⟧.limit self.new ≡ ⟦<MemDisk as Limited>⟧.limit self.old }
+        ensures room { ⟦<MemDisk as Bounded>⟧.room self.new ≡ ⟦<MemDisk as Bounded>⟧.room self.old }
+        ensures used { ⟦<MemDisk as Bounded>⟧.used self.new ≡ ⟦<MemDisk as Bounded>⟧.used self.old }
+    {
         if self.fails_now() {
             return Err(self.fail());
         }
@@ -241,7 +267,19 @@ impl Disk for MemDisk {
         Ok(self.bytes.len() as u64)
     }
 
-    fn read_at(&mut self, at: u64, buf: &mut [u8]) -> Result<(), Failed> {
+    fn read_at(&mut self, at: u64, buf: &mut [u8]) -> Result<(), Failed>
+        requires within { at + length buf.old ≤ length (⟦<MemDisk as Disk>⟧.content self.old) }
+        ensures bytes { OnOk result (buf.new ≡ slice_range (⟦<MemDisk as Disk>⟧.content self.old) at (at + length buf.old)) }
+        ensures content { ⟦<MemDisk as Disk>⟧.content self.new ≡ ⟦<MemDisk as Disk>⟧.content self.old }
+        ensures images { Rests (⟦<MemDisk as Disk>⟧.history self.old) (⟦<MemDisk as Disk>⟧.history self.new) }
+        ensures cause { HasCause (⟦<MemDisk as Disk>⟧.faults self.old) (⟦<MemDisk as Disk>⟧.faults self.new) result }
+        ensures exact { IsErr result ↔ FailsAt (⟦<MemDisk as Listed>⟧.next self.old) (⟦<MemDisk as Limited>⟧.limit self.old) (⟦<MemDisk as Listed>⟧.failing self.old) }
+        ensures counted { ⟦<MemDisk as Listed>⟧.next self.new ≡ next_number (⟦<MemDisk as Listed>⟧.next self.old) }
+        ensures listed { ⟦<MemDisk as Listed>⟧.failing self.new ≡ ⟦<MemDisk as Listed>⟧.failing self.old }
+        ensures limit { ⟦<MemDisk as Limited>⟧.limit self.new ≡ ⟦<MemDisk as Limited>⟧.limit self.old }
+        ensures room { ⟦<MemDisk as Bounded>⟧.room self.new ≡ ⟦<MemDisk as Bounded>⟧.room self.old }
+        ensures used { ⟦<MemDisk as Bounded>⟧.used self.new ≡ ⟦<MemDisk as Bounded>⟧.used self.old }
+    {
         if self.fails_now() {
             return Err(self.fail());
         }
@@ -251,7 +289,20 @@ impl Disk for MemDisk {
         Ok(())
     }
 
-    fn write_at(&mut self, at: u64, piece: &[u8]) -> Result<(), Failed> {
+    fn write_at(&mut self, at: u64, piece: &[u8]) -> Result<(), Failed>
+        requires within { at ≤ length (⟦<MemDisk as Disk>⟧.content self.old) }
+        ensures written { OnOk result (⟦<MemDisk as Disk>⟧.content self.new ≡ overwritten (⟦<MemDisk as Disk>⟧.content self.old) at piece.now) }
+        ensures not_written { OnErr result (⟦<MemDisk as Disk>⟧.content self.new ≡ ⟦<MemDisk as Disk>⟧.content self.old) }
+        ensures images { Changes (⟦<MemDisk as Disk>⟧.history self.old) (⟦<MemDisk as Disk>⟧.history self.new) (after_write (latest (⟦<MemDisk as Disk>⟧.history self.old)) at piece.now) result }
+        ensures cause { HasCause (⟦<MemDisk as Disk>⟧.faults self.old) (⟦<MemDisk as Disk>⟧.faults self.new) result }
+        ensures exact { IsErr result ↔ (FailsAt (⟦<MemDisk as Listed>⟧.next self.old) (⟦<MemDisk as Limited>⟧.limit self.old) (⟦<MemDisk as Listed>⟧.failing self.old) ⊎ (⟦<MemDisk as Bounded>⟧.room self.old < ⟦<MemDisk as Bounded>⟧.used self.old + length piece.now)) }
+        ensures counted { ⟦<MemDisk as Listed>⟧.next self.new ≡ next_number (⟦<MemDisk as Listed>⟧.next self.old) }
+        ensures listed { ⟦<MemDisk as Listed>⟧.failing self.new ≡ ⟦<MemDisk as Listed>⟧.failing self.old }
+        ensures limit { ⟦<MemDisk as Limited>⟧.limit self.new ≡ ⟦<MemDisk as Limited>⟧.limit self.old }
+        ensures room { ⟦<MemDisk as Bounded>⟧.room self.new ≡ ⟦<MemDisk as Bounded>⟧.room self.old }
+        ensures used { OnOk result (⟦<MemDisk as Bounded>⟧.used self.new ≡ ⟦<MemDisk as Bounded>⟧.used self.old + length piece.now) }
+        ensures not_used { OnErr result (⟦<MemDisk as Bounded>⟧.used self.new ≡ ⟦<MemDisk as Bounded>⟧.used self.old) }
+    {
         if self.fails_now() || !self.has_room(piece.len()) {
             return Err(self.fail());
         }
@@ -266,7 +317,19 @@ impl Disk for MemDisk {
         Ok(())
     }
 
-    fn cut(&mut self, len: u64) -> Result<(), Failed> {
+    fn cut(&mut self, len: u64) -> Result<(), Failed>
+        requires within { len ≤ length (⟦<MemDisk as Disk>⟧.content self.old) }
+        ensures cut { OnOk result (⟦<MemDisk as Disk>⟧.content self.new ≡ take len (⟦<MemDisk as Disk>⟧.content self.old)) }
+        ensures not_cut { OnErr result (⟦<MemDisk as Disk>⟧.content self.new ≡ ⟦<MemDisk as Disk>⟧.content self.old) }
+        ensures images { Changes (⟦<MemDisk as Disk>⟧.history self.old) (⟦<MemDisk as Disk>⟧.history self.new) (after_cut (latest (⟦<MemDisk as Disk>⟧.history self.old)) len) result }
+        ensures cause { HasCause (⟦<MemDisk as Disk>⟧.faults self.old) (⟦<MemDisk as Disk>⟧.faults self.new) result }
+        ensures exact { IsErr result ↔ FailsAt (⟦<MemDisk as Listed>⟧.next self.old) (⟦<MemDisk as Limited>⟧.limit self.old) (⟦<MemDisk as Listed>⟧.failing self.old) }
+        ensures counted { ⟦<MemDisk as Listed>⟧.next self.new ≡ next_number (⟦<MemDisk as Listed>⟧.next self.old) }
+        ensures listed { ⟦<MemDisk as Listed>⟧.failing self.new ≡ ⟦<MemDisk as Listed>⟧.failing self.old }
+        ensures limit { ⟦<MemDisk as Limited>⟧.limit self.new ≡ ⟦<MemDisk as Limited>⟧.limit self.old }
+        ensures room { ⟦<MemDisk as Bounded>⟧.room self.new ≡ ⟦<MemDisk as Bounded>⟧.room self.old }
+        ensures used { ⟦<MemDisk as Bounded>⟧.used self.new ≡ ⟦<MemDisk as Bounded>⟧.used self.old }
+    {
         if self.fails_now() {
             return Err(self.fail());
         }
@@ -279,10 +342,15 @@ impl Disk for MemDisk {
     }
 
     fn sync(&mut self) -> Result<(), Failed>
-        ensures content { Unit {0} → self.new.bytes.items ≡ self.old.bytes.items }
-        ensures images { Unit {0} → Syncs (history_of self.old.first.items self.old.calls.items self.old.pieces.items self.old.made) (history_of self.new.first.items self.new.calls.items self.new.pieces.items self.new.made) result }
-        ensures cause { HasCause self.old.faults self.new.faults result }
+        ensures content { ⟦<MemDisk as Disk>⟧.content self.new ≡ ⟦<MemDisk as Disk>⟧.content self.old }
+        ensures images { Syncs (⟦<MemDisk as Disk>⟧.history self.old) (⟦<MemDisk as Disk>⟧.history self.new) result }
+        ensures cause { HasCause (⟦<MemDisk as Disk>⟧.faults self.old) (⟦<MemDisk as Disk>⟧.faults self.new) result }
         ensures exact { IsErr result ↔ FailsAt (⟦<MemDisk as Listed>⟧.next self.old) (⟦<MemDisk as Limited>⟧.limit self.old) (⟦<MemDisk as Listed>⟧.failing self.old) }
+        ensures counted { ⟦<MemDisk as Listed>⟧.next self.new ≡ next_number (⟦<MemDisk as Listed>⟧.next self.old) }
+        ensures listed { ⟦<MemDisk as Listed>⟧.failing self.new ≡ ⟦<MemDisk as Listed>⟧.failing self.old }
+        ensures limit { ⟦<MemDisk as Limited>⟧.limit self.new ≡ ⟦<MemDisk as Limited>⟧.limit self.old }
+        ensures room { ⟦<MemDisk as Bounded>⟧.room self.new ≡ ⟦<MemDisk as Bounded>⟧.room self.old }
+        ensures used { ⟦<MemDisk as Bounded>⟧.used self.new ≡ ⟦<MemDisk as Bounded>⟧.used self.old }
     {
         if self.fails_now() {
             return Err(self.fail());

@@ -1,9 +1,10 @@
 // A shelf in memory.
-ghost use Rattle.std.specs.Prelude.{◌≡◌, ◌≢◌, ◌+◌, ◌≤◌, [], List, ℕ, length, string_bytes, Some, IfNone, IfSome, IfOk, IfErr, OnOk, OnErr, vec_capacity};
+ghost use Rattle.std.specs.Prelude.{◌≡◌, ◌≢◌, ◌⊎◌, ◌↔◌, ◌+◌, ◌≤◌, [], List, ℕ, length, string_bytes, Some, IfNone, IfSome, IfOk, IfErr, OnOk, OnErr, vec_capacity};
 ghost use Rattle.std.specs.List.{position};
 ghost use Rattle.disk_model.specs.Disk.{IsMade};
 ghost use Rattle.disk_model.specs.Faults.{Rose};
 ghost use Rattle.disk_model.specs.Place.{missing, stored, out, with_place};
+ghost use Rattle.disk_model.specs.Listed.{IsListed, next_number};
 ghost use Rattle.disk_model.specs.Filed.{items_of, spells, file_in, place_in};
 
 use crate::call_count::{Bounded, CallCount, Limited, Listed};
@@ -75,6 +76,10 @@ impl MemShelf {
         ensures error { result ≡ TakeError.Failed }
         ensures later { ⟦<MemShelf as Shelf>⟧.faults self.old ≤ ⟦<MemShelf as Shelf>⟧.faults self.new }
         ensures rose { Rose (⟦<MemShelf as Shelf>⟧.faults self.old) (⟦<MemShelf as Shelf>⟧.faults self.new) }
+        ensures next { ⟦<MemShelf as Listed>⟧.next self.new ≡ ⟦<MemShelf as Listed>⟧.next self.old }
+        ensures listed { ⟦<MemShelf as Listed>⟧.failing self.new ≡ ⟦<MemShelf as Listed>⟧.failing self.old }
+        ensures room { ⟦<MemShelf as Bounded>⟧.room self.new ≡ ⟦<MemShelf as Bounded>⟧.room self.old }
+        ensures limit { ⟦<MemShelf as Limited>⟧.limit self.new ≡ ⟦<MemShelf as Limited>⟧.limit self.old }
     {
         let _ = self.takes.fail();
         TakeError::Failed
@@ -89,6 +94,10 @@ impl MemShelf {
         ensures left { OnErr result (⟦<MemShelf as Shelf>⟧.places self.new ≡ ⟦<MemShelf as Shelf>⟧.places self.old) }
         ensures memory { IfErr result (λ error. error ≡ TakeError.Memory) }
         ensures faults { ⟦<MemShelf as Shelf>⟧.faults self.new ≡ ⟦<MemShelf as Shelf>⟧.faults self.old }
+        ensures next { ⟦<MemShelf as Listed>⟧.next self.new ≡ ⟦<MemShelf as Listed>⟧.next self.old }
+        ensures listed { ⟦<MemShelf as Listed>⟧.failing self.new ≡ ⟦<MemShelf as Listed>⟧.failing self.old }
+        ensures room { ⟦<MemShelf as Bounded>⟧.room self.new ≡ ⟦<MemShelf as Bounded>⟧.room self.old }
+        ensures limit { ⟦<MemShelf as Limited>⟧.limit self.new ≡ ⟦<MemShelf as Limited>⟧.limit self.old }
     {
         self.away.reserve(alloc)?;
         let (own, disk) = self.files.remove(at);
@@ -106,6 +115,10 @@ impl MemShelf {
         ensures left { OnErr result (⟦<MemShelf as Shelf>⟧.places self.new ≡ ⟦<MemShelf as Shelf>⟧.places self.old) }
         ensures memory { IfErr result (λ error. error ≡ TakeError.Memory) }
         ensures faults { ⟦<MemShelf as Shelf>⟧.faults self.new ≡ ⟦<MemShelf as Shelf>⟧.faults self.old }
+        ensures next { ⟦<MemShelf as Listed>⟧.next self.new ≡ ⟦<MemShelf as Listed>⟧.next self.old }
+        ensures listed { ⟦<MemShelf as Listed>⟧.failing self.new ≡ ⟦<MemShelf as Listed>⟧.failing self.old }
+        ensures shelf_room { ⟦<MemShelf as Bounded>⟧.room self.new ≡ ⟦<MemShelf as Bounded>⟧.room self.old }
+        ensures shelf_limit { ⟦<MemShelf as Limited>⟧.limit self.new ≡ ⟦<MemShelf as Limited>⟧.limit self.old }
     {
         let own = String::from_str(alloc, name)?;
         let disk = MemDisk::new(
@@ -125,6 +138,8 @@ impl MemShelf {
 // What a disk takes that is made here.
 impl Bounded for MemShelf {
     ghost room = { λ shelf. shelf.room };
+
+    ghost used = { λ shelf. 0 };
 }
 
 // How many calls a disk bears that is made here.
@@ -147,7 +162,22 @@ impl Shelf for MemShelf {
 
     ghost faults = { λ shelf. shelf.takes.faults };
 
-    fn take(&mut self, alloc: Global, name: &str, mode: Mode) -> Result<MemDisk, TakeError> {
+    fn take(&mut self, alloc: Global, name: &str, mode: Mode) -> Result<MemDisk, TakeError>
+        requires here { ⟦<MemShelf as Shelf>⟧.places self.old name.now ≢ out }
+        ensures taken { IfOk result (λ disk. (⟦<MemShelf as Shelf>⟧.places self.old name.now ≡ stored disk)
+            ⊎ ((mode ≡ Mode.Write) × (⟦<MemShelf as Shelf>⟧.places self.old name.now ≡ missing) × IsMade (Unit {0}) (Unit {0}) (⟦<MemDisk as Disk>⟧.content disk) (⟦<MemDisk as Disk>⟧.history disk) (⟦<MemDisk as Disk>⟧.faults disk)
+            × (⟦<MemDisk as Bounded>⟧.room disk ≡ ⟦<MemShelf as Bounded>⟧.room self.old) × (⟦<MemDisk as Limited>⟧.limit disk ≡ ⟦<MemShelf as Limited>⟧.limit self.old))) }
+        ensures now_out { OnOk result (⟦<MemShelf as Shelf>⟧.places self.new ≡ with_place (⟦<MemShelf as Shelf>⟧.places self.old) name.now out) }
+        ensures absent { (result ≡ Err TakeError.Absent) ↔ ((mode ≡ Mode.Read) × (⟦<MemShelf as Shelf>⟧.places self.old name.now ≡ missing)) }
+        ensures left { OnErr result (⟦<MemShelf as Shelf>⟧.places self.new ≡ ⟦<MemShelf as Shelf>⟧.places self.old) }
+        ensures later { ⟦<MemShelf as Shelf>⟧.faults self.old ≤ ⟦<MemShelf as Shelf>⟧.faults self.new }
+        ensures rose { result ≡ Err TakeError.Failed → Rose (⟦<MemShelf as Shelf>⟧.faults self.old) (⟦<MemShelf as Shelf>⟧.faults self.new) }
+        ensures failed { (result ≡ Err TakeError.Failed) ↔ (IsListed (⟦<MemShelf as Listed>⟧.failing self.old) (⟦<MemShelf as Listed>⟧.next self.old) × ¬ ((mode ≡ Mode.Read) × (⟦<MemShelf as Shelf>⟧.places self.old name.now ≡ missing))) }
+        ensures counted { ⟦<MemShelf as Listed>⟧.next self.new ≡ next_number (⟦<MemShelf as Listed>⟧.next self.old) }
+        ensures listed { ⟦<MemShelf as Listed>⟧.failing self.new ≡ ⟦<MemShelf as Listed>⟧.failing self.old }
+        ensures room { ⟦<MemShelf as Bounded>⟧.room self.new ≡ ⟦<MemShelf as Bounded>⟧.room self.old }
+        ensures limit { ⟦<MemShelf as Limited>⟧.limit self.new ≡ ⟦<MemShelf as Limited>⟧.limit self.old }
+    {
         let fails = self.takes.fails_next();
         let Some(at) = self.find(name) else {
             return match mode {
@@ -162,7 +192,15 @@ impl Shelf for MemShelf {
         self.lend(alloc, name, at)
     }
 
-    fn put_back(&mut self, name: &str, disk: MemDisk) {
+    fn put_back(&mut self, name: &str, disk: MemDisk)
+        requires was_out { ⟦<MemShelf as Shelf>⟧.places self.old name.now ≡ out }
+        ensures back { ⟦<MemShelf as Shelf>⟧.places self.new ≡ with_place (⟦<MemShelf as Shelf>⟧.places self.old) name.now (stored disk) }
+        ensures later { ⟦<MemShelf as Shelf>⟧.faults self.old ≤ ⟦<MemShelf as Shelf>⟧.faults self.new }
+        ensures next { ⟦<MemShelf as Listed>⟧.next self.new ≡ ⟦<MemShelf as Listed>⟧.next self.old }
+        ensures listed { ⟦<MemShelf as Listed>⟧.failing self.new ≡ ⟦<MemShelf as Listed>⟧.failing self.old }
+        ensures room { ⟦<MemShelf as Bounded>⟧.room self.new ≡ ⟦<MemShelf as Bounded>⟧.room self.old }
+        ensures limit { ⟦<MemShelf as Limited>⟧.limit self.new ≡ ⟦<MemShelf as Limited>⟧.limit self.old }
+    {
         if let Some(own) = self.away.take(name) {
             insert_first(&mut self.files, (own, disk));
         }

@@ -54,6 +54,8 @@ impl MemSink {
 
 impl Bounded for MemSink {
     ghost room = { λ sink. sink.room };
+
+    ghost used = { λ sink. length sink.written.items };
 }
 
 impl Listed for MemSink {

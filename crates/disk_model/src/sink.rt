@@ -1,5 +1,5 @@
 // Where bytes go.
-ghost use Rattle.std.specs.Prelude.{◌≡◌, ◌<◌, ◌≤◌, ◌++◌, List, ℕ, length, take, IfOk, OnErr};
+ghost use Rattle.std.specs.Prelude.{◌≡◌, ◌<◌, ◌≤◌, ◌++◌, List, ℕ, length, take, IfOk, OnOk, OnErr};
 ghost use Rattle.disk_model.specs.Faults.{HasCause};
 
 use crate::Failed;
@@ -22,4 +22,19 @@ pub trait Sink {
         ensures taken { tells → IfOk result (λ n. written self.new ≡ written self.old ++ take n piece.now) }
         ensures nothing { tells → OnErr result (written self.new ≡ written self.old) }
         ensures cause { HasCause (faults self.old) (faults self.new) result };
+}
+
+/// Writes a whole text. Where the sink fails, a front of it is written.
+pub fn write_all<O: Sink>(sink: &mut O, text: &[u8]) -> Result<(), Failed>
+    ensures whole { O.tells → OnOk result (O.written sink.new ≡ O.written sink.old ++ text.now) }
+    ensures cut_short { O.tells → OnErr result ((count : ℕ) × (O.written sink.new ≡ O.written sink.old ++ take count text.now)) }
+    ensures cause { HasCause (O.faults sink.old) (O.faults sink.new) result }
+{
+    let mut rest = text;
+    while !rest.is_empty() {
+        let taken = sink.write(rest)?;
+        let (_, after) = rest.split_at(taken);
+        rest = after;
+    }
+    Ok(())
 }

@@ -6,3 +6,4 @@ pub mod Small
 pub mod Alone
 pub mod ReadBack
 pub mod Written
+pub mod Tags

@@ -1,4 +1,3 @@
-pub mod Pieces
 pub mod ListStatuses
 pub mod Numbers
 pub mod InputRead

@@ -1,7 +1,6 @@
 //! What the program says on the error output.
-use crate::output::write_all;
 use crate::stop::Stop;
-use disk_model::Sink;
+use disk_model::{Sink, write_all};
 use foz_archive::ArchiveError;
 use std::alloc::Global;
 use std::fmt;

@@ -6,9 +6,8 @@ ghost use Rattle.foz_tool.specs.HashRun.{HashEnds, Hashes};
 use crate::complaint::complain;
 use crate::host::{Host, Seen};
 use crate::input::read_input;
-use crate::output::write_all;
 use crate::stop::{Stop, status_of};
-use disk_model::{Failed, Shelf, Sink, Source};
+use disk_model::{Failed, Shelf, Sink, Source, write_all};
 use foz_text::push_hash;
 use std::alloc::Global;
 

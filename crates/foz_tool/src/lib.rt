@@ -11,7 +11,6 @@ mod host;
 mod input;
 mod list;
 mod number;
-mod output;
 mod program;
 mod put;
 mod record;

@@ -5,9 +5,8 @@ ghost use Rattle.std.specs.List.{list_any};
 ghost use Rattle.foz_text.specs.RecordText.{record_text, is_refused};
 ghost use Rattle.foz_tool.specs.RecordRun.{is_full, status_of_answers};
 
-use crate::output::write_all;
 use crate::stop::Stop;
-use disk_model::{Failed, Sink};
+use disk_model::{Failed, Sink, write_all};
 use foz_text::{CauseText, is_refused, push_record};
 use record_lines::Report;
 use record_words::{Answered, LineAnswer, RecordReply};

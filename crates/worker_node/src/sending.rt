@@ -6,24 +6,9 @@ ghost use Rattle.worker_node.specs.Steps.{IsUnsent, IsStopped};
 ghost use Rattle.worker_node.specs.declared.served.Served.TheVariants.{WriteFault};
 
 use crate::served::Served;
-use disk_model::{Failed, Sink};
+use disk_model::{Failed, Sink, write_all};
 use std::alloc::Global;
 use worker_msg::{Msg, write_msg};
-
-/// Writes all bytes. Where the sink fails, a front of them is written.
-fn write_all<O: Sink>(sink: &mut O, bytes: &[u8]) -> Result<(), Failed>
-    ensures whole { O.tells → OnOk result (O.written sink.new ≡ O.written sink.old ++ bytes.now) }
-    ensures cut_short { O.tells → OnErr result ((count : ℕ) × (O.written sink.new ≡ O.written sink.old ++ take count bytes.now)) }
-    ensures cause { HasCause (O.faults sink.old) (O.faults sink.new) result }
-{
-    let mut rest = bytes;
-    while !rest.is_empty() {
-        let taken = sink.write(rest)?;
-        let (_, after) = rest.split_at(taken);
-        rest = after;
-    }
-    Ok(())
-}
 
 /// Writes the frame of a message.
 pub(crate) fn send<O: Sink>(alloc: Global, sink: &mut O, message: &Msg) -> Result<(), Served>

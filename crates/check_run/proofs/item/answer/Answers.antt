@@ -1,6 +1,6 @@
 use Rattle.std.proofs.Common.{◌≡◌, ◌<◌, ℕ, List, length, get_or, Ok, subst, arith}
 use Rattle.foz_payload.specs.Meaning.{Means}
-use Rattle.worker_node.proofs.Tags.{means_tag}
+use Rattle.foz_payload.proofs.Tags.{means_tag}
 use Rattle.check_run.proofs.Answered.{is_answered}
 use Rattle.check_run.proofs.Picked.{place_inside, entry_stands}
 use Rattle.check_run.proofs.item.answer.Goals as goal

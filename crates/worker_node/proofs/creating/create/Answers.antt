@@ -1,4 +1,4 @@
-use Rattle.worker_node.proofs.Tags.{means_tag}
+use Rattle.foz_payload.proofs.Tags.{means_tag}
 use Rattle.worker_node.proofs.creating.create.Goals as goal
 
 pub create-requires : goal.create-requires

@@ -15,7 +15,7 @@ pub invariant_of-self-clause-image : goal.invariant_of-self-clause-image
 invariant_of-self-clause-image c =
     let m = c.args.self.now in
     image_at _ _ _ _ (λ i. state_of (sym c.truncate.ensures.items i) m.base.items (sym c.min-self.ensures i) m.greatest m.written.items) (sym c.truncate.ensures.items)
-    (cut_keeps_image (state_of m.bytes.items m.base.items m.least m.greatest m.written.items) c.args.len m.image (c.requires.within tt))
+    (cut_keeps_image (state_of m.bytes.items m.base.items m.least m.greatest m.written.items) c.args.len m.image c.requires.within)
 
 pub invariant_of-self-clause-full : goal.invariant_of-self-clause-full
 invariant_of-self-clause-full c =

@@ -20,7 +20,7 @@ invariant_of-self-clause-image c =
     image_at _ _ _ _
     (written_state m.bytes.items m.base.items m.least m.greatest m.written.items c.args.at c.args.piece.now _ _ _ c.overwrite.ensures.items c.max-self.ensures c.push_within.ensures.items)
     (sym c.overwrite.ensures.items)
-    (write_keeps_image (state_of m.bytes.items m.base.items m.least m.greatest m.written.items) c.args.at c.args.piece.now m.image (c.requires.within tt))
+    (write_keeps_image (state_of m.bytes.items m.base.items m.least m.greatest m.written.items) c.args.at c.args.piece.now m.image c.requires.within)
 
 pub invariant_of-self-clause-full : goal.invariant_of-self-clause-full
 invariant_of-self-clause-full c =
@@ -30,7 +30,7 @@ invariant_of-self-clause-full c =
     grown_full grown
 
 pub returns-clause-images : goal.returns-clause-images
-returns-clause-images c told =
+returns-clause-images c =
     let m = c.args.self.now in
     let grown : Grown (Write c.args.at (length c.args.piece.now)) c.args.piece.now m.calls.items c.push_within-2.new.list.items m.pieces.items c.extend_within.new.list.items =
     record { calls_are = c.push_within-2.ensures.items; pieces_are = c.extend_within.ensures.items; full = m.full; size = omega arith } in

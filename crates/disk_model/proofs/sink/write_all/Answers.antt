@@ -1,7 +1,7 @@
 use Rattle.std.proofs.Common.{◌∙◌, arith}
 use Rattle.std.proofs.lemmas.Result.{err_from_is_err_and}
-use Rattle.foz_tool.proofs.Pieces.{written_more, written_front}
-use Rattle.foz_tool.proofs.output.write_all.Goals as goal
+use Rattle.disk_model.proofs.Pieces.{written_more, written_front}
+use Rattle.disk_model.proofs.sink.write_all.Goals as goal
 
 pub returns-in_err-taken-clause-cut_short : goal.returns-in_err-taken-clause-cut_short
 returns-in_err-taken-clause-cut_short g c = λ told.
