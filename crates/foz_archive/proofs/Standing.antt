@@ -1,5 +1,6 @@
 -- Entries in a row, one after the other.
-use Rattle.std.proofs.Common.{◌≡◌, ℕ, ◌+◌, ◌<◌, ◌≤◌, List, [], ◌∷◌, ◌++◌, length, drop, refl, subst, append_assoc, append-nil, length-append, length-drop, arith}
+use Rattle.std.proofs.Common.{◌≡◌, ℕ, ◌+◌, ◌<◌, ◌≤◌, List, [], ◌∷◌, ◌++◌, length, drop, refl, subst, append_assoc, append-nil, length-append, length-drop, All, arith}
+use Rattle.std.proofs.lemmas.List.Elements.{All-nil, All-cons}
 use Rattle.foz_entry.specs.declared.cut.Cut.{Cut}
 use Rattle.foz_entry.specs.declared.cut.Entry.{Entry}
 use Rattle.foz_entry.specs.Whole.{IsWhole}
@@ -37,3 +38,9 @@ end_within place bytes (e ∷ entries) end stand =
 -- nothing that is read ends past the file
 pub ends_within : (file : List ℕ) (entries : List Entry) (end : ℕ) → 16 ≤ length file → Stand 16 (drop 16 file) entries end → end ≤ length file
 ends_within file entries end long stand = omega (arith, end_within 16 (drop 16 file) entries end stand, length-drop 16 file)
+
+-- of each entry in a row the payload has the size that the head states
+pub all_sized : (place : ℕ) (bytes : List ℕ) (entries : List Entry) (end : ℕ) → Stand place bytes entries end → All (λ (entry : Entry). length entry.payload ≡ entry.head.size) entries
+all_sized place bytes [] end stand = All-nil (λ (entry : Entry). length entry.payload ≡ entry.head.size)
+all_sized place bytes (e ∷ entries) end stand =
+    All-cons (λ (entry : Entry). length entry.payload ≡ entry.head.size) e entries stand.1.1.sized (all_sized (place + e.head.total) stand.1.0 entries end stand.1.2)

@@ -1,5 +1,5 @@
 -- What stands in an archive.
-use Rattle.std.specs.Prelude.{◌≡◌, ◌≢◌, ◌⊎◌, ℕ, zero, suc, Bool, true, false, ◌+◌, ◌≤◌, List, [], ◌∷◌, ◌++◌, length, take, drop, codes}
+use Rattle.std.specs.Prelude.{◌≡◌, ◌≢◌, ◌⊎◌, ℕ, zero, suc, Bool, true, false, ◌+◌, ◌≤◌, List, [], ◌∷◌, ◌++◌, length, take, drop, All, codes}
 use Rattle.foz_entry.specs.declared.cut.Cut.{Cut}
 use Rattle.foz_entry.specs.declared.cut.Entry.{Entry}
 use Rattle.foz_entry.specs.Whole.{IsWhole}
@@ -73,3 +73,5 @@ pub record IsBounded (scanned : Scanned) : Type 0 where
   pub near : scanned.end ≤ end_limit
   pub few : length scanned.entries ≤ count_limit
   pub within : scanned.end ≤ scanned.length
+  -- each payload has the size that its head states
+  pub sized : All (λ (entry : Entry). length entry.payload ≡ entry.head.size) scanned.entries

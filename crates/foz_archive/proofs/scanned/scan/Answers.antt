@@ -1,6 +1,6 @@
-use Rattle.std.proofs.Common.{refl, subst, arith, inr}
+use Rattle.std.proofs.Common.{refl, subst, arith, inr, drop}
 use Rattle.foz_archive.specs.Found.{IsFound}
-use Rattle.foz_archive.proofs.Standing.{ends_within}
+use Rattle.foz_archive.proofs.Standing.{ends_within, all_sized}
 use Rattle.foz_archive.proofs.Fronts.{front_of, header_from, long_of_header}
 use Rattle.foz_archive.proofs.scanned.scan.Goals as goal
 
@@ -43,4 +43,9 @@ pub returns-else-end-gt-END_LIMIT-clause-bounded : goal.returns-else-end-gt-END_
 returns-else-end-gt-END_LIMIT-clause-bounded c =
     let found = subst (IsFound c.args.bytes.now) c.in-Few.is c.in_ok-entries.ensures in
     let begins = header_from c.args.bytes.now _ c.min.ensures c.in_default.ensures.good in
-    record { near = omega arith; few = found.1; within = ends_within c.args.bytes.now c.in-Few.entries c.in-Few.end (long_of_header c.args.bytes.now begins) found.0 }
+    record {
+      near = omega arith;
+      few = found.1;
+      within = ends_within c.args.bytes.now c.in-Few.entries c.in-Few.end (long_of_header c.args.bytes.now begins) found.0;
+      sized = all_sized 16 (drop 16 c.args.bytes.now) c.in-Few.entries c.in-Few.end found.0;
+    }
