@@ -1,7 +1,9 @@
-//! The program `foz`: it hands the standard streams, the files of the system and its words to `foz_tool::run`.
+//! The program `foz`: it hands the standard streams, the files of the system, the driver that checks states and its words
+//! to `foz_tool::run`.
 #![tactic(auto)]
 
 use disk_model::{FolderShelf, StdSink, StdSource};
+use driver_check::CheckDriver;
 use foz_tool::{Host, run};
 use std::env;
 use std::process::ExitCode;
@@ -28,6 +30,7 @@ fn main(rt: HostRuntime) -> ExitCode {
         output: StdSink::output(rt.stdout()),
         errors: StdSink::errors(rt.stderr()),
         files: FolderShelf::new(rt),
+        driver: CheckDriver::new(alloc),
     };
     ExitCode::from(run(alloc, words.as_slice(), &mut host))
 }

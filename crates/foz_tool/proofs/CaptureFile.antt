@@ -1,5 +1,5 @@
 -- What a capture recorded in a file of a shelf leaves.
-use Rattle.std.proofs.Common.{◌≡◌, ◌⊎◌, inl, inr, ℕ, ◌≤◌, Bool, true, false, List, [], Option, Some, None, Result, Ok, Err, refl, sym, ap, ◌∙◌, subst, arith}
+use Rattle.std.proofs.Common.{◌≡◌, ◌≢◌, ◌⊎◌, inl, inr, ℕ, ◌≤◌, Bool, true, false, List, [], Option, Some, None, Result, Ok, Err, refl, sym, ap, ◌∙◌, subst, arith}
 use Rattle.std.specs.Prelude.{IfErr, IsOk}
 use Rattle.disk_model.specs.Disk.{History, latest, IsImage, NothingPending, IsMade}
 use Rattle.disk_model.specs.Place.{Place, missing, stored, out}
@@ -13,6 +13,7 @@ use Rattle.record_lines.specs.declared.capture.CaptureStop.TheVariants as captur
 use Rattle.record_lines.specs.Capture.{IsCaptured, CaptureEnds, CaptureLeaves}
 use Rattle.record_lines.proofs.Images.{opening_leaves}
 use Rattle.foz_tool.specs.declared.stop.Stop.{Stop}
+use Rattle.foz_tool.specs.declared.stop.Stop.TheVariants.{ReadFault}
 use Rattle.foz_tool.specs.Status.{stop_of_capture, status_of_stop, report_or_stop}
 use Rattle.foz_tool.specs.PutRun.{IsFlushed}
 use Rattle.foz_tool.specs.FileRecord.{bytes_of, IsSettledFile, IsStart}
@@ -68,6 +69,18 @@ module _ {Cause : Type 0} where
 
   pub capture_early : (outcome : Result (Report Cause) CaptureStop) (result : Result (Report Cause) Stop) → result ≡ report_or_stop outcome → IfErr result (λ stop. ¬ IsFlushed (status_of_stop stop))
   capture_early outcome result is = subst EndsEarly (sym is) (early_end outcome)
+
+  abbrev NotRead : Result (Report Cause) Stop → Type 0
+  NotRead result = IfErr result (λ stop. stop ≢ ReadFault)
+
+  not_read_end : (outcome : Result (Report Cause) CaptureStop) → NotRead (report_or_stop outcome)
+  not_read_end (Ok report) = tt
+  not_read_end (Err capture_stops.DiskFault) = λ e. absurd cc
+  not_read_end (Err (capture_stops.Archive error)) = λ e. absurd cc
+  not_read_end (Err capture_stops.Memory) = λ e. absurd cc
+
+  pub capture_not_read : (outcome : Result (Report Cause) CaptureStop) (result : Result (Report Cause) Stop) → result ≡ report_or_stop outcome → IfErr result (λ stop. stop ≢ ReadFault)
+  capture_not_read outcome result is = subst NotRead (sym is) (not_read_end outcome)
 
   same_end : (outcome : Result (Report Cause) CaptureStop) → IsOk (report_or_stop outcome) → IsOk outcome
   same_end (Ok report) ok = refl

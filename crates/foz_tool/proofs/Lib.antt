@@ -10,3 +10,7 @@ pub mod PutStatuses
 pub mod RecordEnds
 pub mod RecordStatuses
 pub mod HashStatuses
+pub mod CheckTold
+pub mod CheckStatuses
+pub mod WorkerEnds
+pub mod WorkerOneEnd

@@ -1,5 +1,5 @@
 -- What a record on a disk leaves.
-use Rattle.std.proofs.Common.{◌≡◌, ◌⊎◌, inl, inr, ⊎_elim, ℕ, ◌+◌, ◌≤◌, List, [], ◌∷◌, ◌++◌, length, take, Result, Ok, Err, IfOk, IfErr, refl, sym, ap, ◌∙◌, subst, arith}
+use Rattle.std.proofs.Common.{◌≡◌, ◌≢◌, ◌⊎◌, inl, inr, ⊎_elim, ℕ, ◌+◌, ◌≤◌, List, [], ◌∷◌, ◌++◌, length, take, Result, Ok, Err, IfOk, IfErr, refl, sym, ap, ◌∙◌, subst, arith}
 use Rattle.std.proofs.Math.Seq.{take-length}
 use Rattle.disk_model.specs.Disk.{History, latest, IsImage, LeavesOnly, NothingPending}
 use Rattle.disk_model.specs.Faults.{Rose}
@@ -17,7 +17,7 @@ use Rattle.record_words.specs.Recorder.{reply_of}
 use Rattle.record_words.specs.Alone.{after_record}
 use Rattle.record_dedup.specs.Kept.{IsArchiveOf}
 use Rattle.foz_tool.specs.declared.stop.Stop.{Stop}
-use Rattle.foz_tool.specs.declared.stop.Stop.TheVariants.{DiskFault, Memory}
+use Rattle.foz_tool.specs.declared.stop.Stop.TheVariants.{ReadFault, DiskFault, Memory}
 use Rattle.foz_tool.specs.Status.{status_of_stop, stop_of_open}
 use Rattle.foz_tool.specs.PutRun.{IsFlushed}
 use Rattle.foz_tool.specs.Recording.{HoldsWithOrWithout, RecordEnds}
@@ -83,6 +83,19 @@ cause_early causes.Memory = not_flushed 7 (omega arith) (omega arith)
 
 pub open_early : (cause : OpenCause) (stop : Stop) → stop ≡ stop_of_open cause → ¬ IsFlushed (status_of_stop stop)
 open_early cause stop is = subst (λ (s : Stop). ¬ IsFlushed (status_of_stop s)) (sym is) (cause_early cause)
+
+cause_not_read : (cause : OpenCause) → stop_of_open cause ≢ ReadFault
+cause_not_read causes.DiskFault e = absurd cc
+cause_not_read (causes.Archive error) e = absurd cc
+cause_not_read causes.Memory e = absurd cc
+
+pub open_not_read : (cause : OpenCause) (stop : Stop) → stop ≡ stop_of_open cause → stop ≢ ReadFault
+open_not_read cause stop is e = cause_not_read cause (sym is ∙ e)
+
+pub once_not_read : (rose : Type 0) (outcome : Result RecordReply Stop) → IfErr outcome (λ stop. ((stop ≡ DiskFault) × rose) ⊎ (stop ≡ Memory)) → IfErr outcome (λ stop. stop ≢ ReadFault)
+once_not_read rose (Ok reply) err = tt
+once_not_read rose (Err stop) (inl fault) = λ e. absurd (let same : DiskFault ≡ ReadFault = sym fault.0 ∙ e in cc)
+once_not_read rose (Err stop) (inr memory) = λ e. absurd (let same : Memory ≡ ReadFault = sym memory ∙ e in cc)
 
 pub once_early : (rose : Type 0) (outcome : Result RecordReply Stop) → IfErr outcome (λ stop. ((stop ≡ DiskFault) × rose) ⊎ (stop ≡ Memory)) → IfErr outcome (λ stop. ¬ IsFlushed (status_of_stop stop))
 once_early rose (Ok reply) err = tt

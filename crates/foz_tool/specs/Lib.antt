@@ -3,6 +3,7 @@ pub mod Streams
 pub mod Status
 pub mod FileRead
 pub mod ListRun
+pub mod CheckRun
 pub mod Command
 pub mod InputRead
 pub mod HashRun
@@ -11,3 +12,4 @@ pub mod FileRecord
 pub mod PutRun
 pub mod FileCapture
 pub mod RecordRun
+pub mod WorkerRun

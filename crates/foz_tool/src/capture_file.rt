@@ -38,6 +38,7 @@ fn capture_in_file<F: Shelf, L: Lines>(
     ensures others { F.tells → KeepsOthers (F.places files.old) (F.places files.new) name.now }
     ensures later { F.faults files.old ≤ F.faults files.new }
     ensures early { IfErr result (λ stop. ¬ IsFlushed (status_of_stop stop)) }
+    ensures not_read { IfErr result (λ stop. stop ≢ Stop.ReadFault) }
 {
     laws_of_disks::<F::Held>();
     let disk = match files.take(alloc, name, Mode::Write) {
@@ -80,6 +81,7 @@ pub(crate) fn input_in_file<F: Shelf>(
     ensures others { F.tells → KeepsOthers (F.places files.old) (F.places files.new) name.now }
     ensures later { F.faults files.old ≤ F.faults files.new }
     ensures early { IfErr result (λ stop. ¬ IsFlushed (status_of_stop stop)) }
+    ensures not_read { IfErr result (λ stop. stop ≢ Stop.ReadFault) }
 {
     let mut lines = CaptureReader::new(input);
     capture_in_file(alloc, files, name, &mut lines)

@@ -1,5 +1,5 @@
 //! The words that ask for a command.
-ghost use Rattle.std.specs.Prelude.{◌≡◌, ◌↔◌, ℕ, List, map, string_bytes, Some, None, IfOk};
+ghost use Rattle.std.specs.Prelude.{◌≡◌, ◌↔◌, ℕ, List, map, string_bytes, Some, None, IfOk, IfErr};
 ghost use Rattle.foz_tool.specs.Command.{command_of, is_file, key_of_words};
 
 use crate::number::number_upto;
@@ -12,6 +12,8 @@ pub enum Command {
     Put { file: Name, key: Key },
     Hash,
     Record { file: Name, threads: u32 },
+    Check { file: Name },
+    Worker,
 }
 
 /// Why words ask for nothing.
@@ -28,6 +30,17 @@ fn is_file(word: &str) -> bool
     match word.as_bytes() {
         [] => false,
         [first, ..] => *first != b'-',
+    }
+}
+
+/// The name that a word is.
+fn name_of(word: &String) -> Result<Name, ArgError>
+    ensures named { IfOk result (λ name. name ≡ string_bytes word.now) }
+    ensures memory { IfErr result (λ error. error ≡ ArgError.Memory) }
+{
+    match word.clone() {
+        Ok(own) => Ok(Name::from_string(own)),
+        Err(_) => Err(ArgError::Memory),
     }
 }
 
@@ -53,31 +66,26 @@ pub fn command_of(words: &[String]) -> Result<Command, ArgError>
 {
     match words {
         [verb] if verb.as_str() == "hash" => Ok(Command::Hash),
-        [verb, file] if verb.as_str() == "list" && is_file(file.as_str()) => match file.clone() {
-            Ok(file) => Ok(Command::List {
-                file: Name::from_string(file),
-            }),
-            Err(_) => Err(ArgError::Memory),
-        },
+        [verb] if verb.as_str() == "worker" => Ok(Command::Worker),
+        [verb, file] if verb.as_str() == "list" && is_file(file.as_str()) => {
+            let file = name_of(file)?;
+            Ok(Command::List { file })
+        }
         [verb, file, tag, hash] if verb.as_str() == "put" && is_file(file.as_str()) => {
             let Some(key) = key_of_words(tag.as_str(), hash.as_str()) else {
                 return Err(ArgError::Usage);
             };
-            match file.clone() {
-                Ok(file) => Ok(Command::Put {
-                    file: Name::from_string(file),
-                    key,
-                }),
-                Err(_) => Err(ArgError::Memory),
-            }
+            let file = name_of(file)?;
+            Ok(Command::Put { file, key })
         }
-        [verb, file] if verb.as_str() == "record" && is_file(file.as_str()) => match file.clone() {
-            Ok(file) => Ok(Command::Record {
-                file: Name::from_string(file),
-                threads: 1,
-            }),
-            Err(_) => Err(ArgError::Memory),
-        },
+        [verb, file] if verb.as_str() == "record" && is_file(file.as_str()) => {
+            let file = name_of(file)?;
+            Ok(Command::Record { file, threads: 1 })
+        }
+        [verb, file] if verb.as_str() == "check" && is_file(file.as_str()) => {
+            let file = name_of(file)?;
+            Ok(Command::Check { file })
+        }
         _ => Err(ArgError::Usage),
     }
 }

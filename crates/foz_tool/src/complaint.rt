@@ -46,8 +46,8 @@ impl fmt::Display for Stop {
 }
 
 /// Says on the error output why a command ended. A failure there changes nothing.
-pub(crate) fn complain<O: Sink>(alloc: Global, errors: &mut O, stop: &Stop) {
-    if let Ok(text) = format!(in alloc; "foz: {stop}\n") {
+pub(crate) fn complain<O: Sink, T: fmt::Display>(alloc: Global, errors: &mut O, reason: &T) {
+    if let Ok(text) = format!(in alloc; "foz: {reason}\n") {
         let _ = write_all(errors, text.as_bytes());
     }
 }

@@ -69,6 +69,7 @@ pub(crate) fn record_in_file<F: Shelf>(
     ensures others { F.tells → KeepsOthers (F.places files.old) (F.places files.new) name.now }
     ensures later { F.faults files.old ≤ F.faults files.new }
     ensures early { IfErr result (λ stop. ¬ IsFlushed (status_of_stop stop)) }
+    ensures not_read { IfErr result (λ stop. stop ≢ Stop.ReadFault) }
 {
     laws_of_disks::<F::Held>();
     let disk = match files.take(alloc, name, Mode::Write) {

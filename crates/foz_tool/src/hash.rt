@@ -8,15 +8,20 @@ use crate::host::{Host, Seen};
 use crate::input::read_input;
 use crate::stop::{Stop, status_of};
 use disk_model::{Failed, Shelf, Sink, Source, write_all};
+use driver_check::Driver;
 use foz_text::push_hash;
 use std::alloc::Global;
 
 /// Prints the text of the capture that the input is, and says whether no line of it is refused.
-fn hash<I: Source, O: Sink, F: Shelf>(alloc: Global, host: &mut Host<I, O, F>) -> Result<bool, Stop>
-    ensures ends { I.tells → O.tells → let streams = ⟦<Host<I, O, F> as Seen>⟧.streams in HashEnds (streams host.old) (streams host.new) result }
+fn hash<I: Source, O: Sink, F: Shelf, R: Driver>(
+    alloc: Global,
+    host: &mut Host<I, O, F, R>,
+) -> Result<bool, Stop>
+    ensures ends { I.tells → O.tells → let streams = ⟦<Host<I, O, F, R> as Seen>⟧.streams in HashEnds (streams host.old) (streams host.new) result }
     ensures files { host.new.files ≡ host.old.files }
     ensures read_fault { result ≡ Err Stop.ReadFault → Rose (I.faults host.old.input) (I.faults host.new.input) }
     ensures write_fault { result ≡ Err Stop.WriteFault → Rose (O.faults host.old.output) (O.faults host.new.output) }
+    ensures driver { host.new.driver ≡ host.old.driver }
 {
     let capture = read_input(alloc, &mut host.input)?;
     let mut text = Vec::new(alloc);
@@ -29,11 +34,15 @@ fn hash<I: Source, O: Sink, F: Shelf>(alloc: Global, host: &mut Host<I, O, F>) -
 
 /// Prints a line for each line of the capture that the input is: the kind and the hash of its state, or why it is refused.
 /// Lines that are empty or comments have none.
-pub fn hash_cmd<I: Source, O: Sink, F: Shelf>(alloc: Global, host: &mut Host<I, O, F>) -> u8
-    ensures ends { I.tells → O.tells → let streams = ⟦<Host<I, O, F> as Seen>⟧.streams in Hashes (streams host.old) (streams host.new) result }
+pub fn hash_cmd<I: Source, O: Sink, F: Shelf, R: Driver>(
+    alloc: Global,
+    host: &mut Host<I, O, F, R>,
+) -> u8
+    ensures ends { I.tells → O.tells → let streams = ⟦<Host<I, O, F, R> as Seen>⟧.streams in Hashes (streams host.old) (streams host.new) result }
     ensures files { host.new.files ≡ host.old.files }
     ensures read_fault { result ≡ 3 → Rose (I.faults host.old.input) (I.faults host.new.input) }
     ensures write_fault { result ≡ 4 → Rose (O.faults host.old.output) (O.faults host.new.output) }
+    ensures driver { host.new.driver ≡ host.old.driver }
 {
     match hash(alloc, host) {
         Ok(true) => 0,

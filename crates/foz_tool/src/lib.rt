@@ -2,6 +2,8 @@
 #![tactic(auto)]
 
 mod capture_file;
+mod check;
+mod check_laws;
 mod command;
 mod complaint;
 mod files;
@@ -18,7 +20,11 @@ mod recording;
 mod report;
 mod statuses;
 mod stop;
+mod worker;
+mod worker_laws;
 
+pub use check::check_cmd;
+pub use check_laws::check_statuses;
 pub use command::{ArgError, Command, command_of};
 pub use hash::hash_cmd;
 pub use hash_laws::hash_statuses;
@@ -28,6 +34,8 @@ pub use program::run;
 pub use put::put_cmd;
 pub use record::record_cmd;
 pub use statuses::{list_statuses, put_statuses, record_statuses};
+pub use worker::worker_cmd;
+pub use worker_laws::worker_statuses;
 
 #[cfg(test)]
 mod tests;

@@ -1,5 +1,5 @@
 //! One record in an archive, and one flush.
-ghost use Rattle.std.specs.Prelude.{◌≡◌, ◌≤◌, ◌⊎◌, false, length, IfOk, IfErr, OnOk, IsOk};
+ghost use Rattle.std.specs.Prelude.{◌≡◌, ◌≢◌, ◌≤◌, ◌⊎◌, false, length, IfOk, IfErr, OnOk, IsOk};
 ghost use Rattle.disk_model.specs.Disk.{latest, LeavesOnly, NothingPending};
 ghost use Rattle.disk_model.specs.Faults.{Rose};
 ghost use Rattle.record_words.specs.Recorder.{reply_of};
@@ -30,6 +30,7 @@ pub(crate) fn record_once<D: Disk>(alloc: Global, disk: D, key: Key, payload: &[
     ensures leaves { D.tells_images → NothingPending (latest (D.history disk)) → RecordLeaves (D.content disk) (D.history disk) (D.history result.disk) key payload.now }
     ensures durable { D.tells_images → IsOk result.outcome → NothingPending (latest (D.history result.disk)) }
     ensures early { IfErr result.outcome (λ stop. ¬ IsFlushed (status_of_stop stop)) }
+    ensures not_read { IfErr result.outcome (λ stop. stop ≢ Stop.ReadFault) }
     ensures later { D.faults disk ≤ D.faults result.disk }
 {
     let mut book = match Book::open(alloc, disk) {

@@ -1,9 +1,15 @@
 //! What contracts don't say: the printed texts, on files as they lie in the world, and failures in mid-stream.
+mod check;
 mod hash;
 mod record;
+mod worker;
+
+ghost use Rattle.std.specs.Prelude.{◌≢◌, ℕ, List, IfOk};
+ghost use Rattle.disk_model.specs.Place.{out};
 
 use super::*;
-use disk_model::{MemDisk, MemShelf, MemSink, MemSource};
+use disk_model::{MemDisk, MemShelf, MemSink, MemSource, Shelf};
+use driver_check::CheckDriver;
 use std::alloc::Global;
 use std::process::Abort;
 use std::test::Fail;
@@ -94,6 +100,28 @@ const NOTHING: Given<'static> = Given {
     output_failing: &[],
 };
 
+/// An outside with these files, which is given this, and whose driver has created nothing.
+fn host_of(
+    rt: &impl Abort,
+    alloc: Global,
+    files: Vec<(String, MemDisk)>,
+    given: Given<'_>,
+) -> Result<Host<MemSource, MemSink, MemShelf, CheckDriver>, Fail>
+    ensures nothing_out { IfOk result (λ host. (name : List ℕ) → ⟦<MemShelf as Shelf>⟧.places host.files name ≢ out) }
+{
+    let input = Vec::from_slice(alloc, given.input)?;
+    assert!(rt; input.len() <= MOST_INPUT);
+    let input_failing = Vec::from_slice(alloc, given.input_failing)?;
+    let output_failing = Vec::from_slice(alloc, given.output_failing)?;
+    Ok(Host {
+        input: MemSource::new(input, 100_000, input_failing),
+        output: MemSink::new(alloc, 1000, 7, output_failing)?,
+        errors: MemSink::new(alloc, 1000, 7, Vec::new(alloc))?,
+        files: MemShelf::new(files, 1000, 1000, Vec::new(alloc)),
+        driver: CheckDriver::new(alloc),
+    })
+}
+
 /// Runs the program over a shelf with these files. Gives its answer and what stands in a.foz afterwards.
 fn run_on(
     rt: &impl Abort,
@@ -103,16 +131,7 @@ fn run_on(
     given: Given<'_>,
 ) -> Result<(Answer, Vec<u8>), Fail> {
     let words = words_of(alloc, words)?;
-    let input = Vec::from_slice(alloc, given.input)?;
-    assert!(rt; input.len() <= MOST_INPUT);
-    let input_failing = Vec::from_slice(alloc, given.input_failing)?;
-    let output_failing = Vec::from_slice(alloc, given.output_failing)?;
-    let mut host = Host {
-        input: MemSource::new(input, 100_000, input_failing),
-        output: MemSink::new(alloc, 1000, 7, output_failing)?,
-        errors: MemSink::new(alloc, 1000, 7, Vec::new(alloc))?,
-        files: MemShelf::new(files, 1000, 1000, Vec::new(alloc)),
-    };
+    let mut host = host_of(rt, alloc, files, given)?;
     let status = run(alloc, words.as_slice(), &mut host);
     let answer = Answer {
         status,

@@ -1,7 +1,7 @@
 use Rattle.std.proofs.Common.{inr, ap}
 use Rattle.foz_tool.specs.View.{file_of}
 use Rattle.foz_tool.proofs.FileRecord.{found_of, file_fault, back_again, stored_back}
-use Rattle.foz_tool.proofs.CaptureFile.{file_capture_ends, capture_leaves, capture_early, untaken_capture, whole_outcome}
+use Rattle.foz_tool.proofs.CaptureFile.{file_capture_ends, capture_leaves, capture_early, capture_not_read, untaken_capture, whole_outcome}
 use Rattle.foz_tool.proofs.capture_file.capture_in_file.Goals as goal
 
 pub returns-in-Err-Failed-clause-leaves : goal.returns-in-Err-Failed-clause-leaves
@@ -34,3 +34,6 @@ returns-clause-back g c = λ shelf. back_again _ _ _ _ _ (c.in-Ok.ensures.now_ou
 
 pub returns-clause-early : goal.returns-clause-early
 returns-clause-early g c = capture_early _ _ c.report_or_stop.ensures
+
+pub returns-clause-not_read : goal.returns-clause-not_read
+returns-clause-not_read g c = capture_not_read _ _ c.report_or_stop.ensures

@@ -4,6 +4,7 @@ use Rattle.foz_tool.specs.declared.stop.Stop.TheVariants.{Memory}
 use Rattle.foz_tool.specs.declared.command.Command.TheVariants as command
 use Rattle.foz_tool.proofs.FileRecord.{untaken_leaves}
 use Rattle.foz_tool.proofs.CaptureFile.{untaken_capture}
+use Rattle.foz_tool.proofs.WorkerEnds.{unserved}
 use Rattle.foz_tool.proofs.program.run.Goals as goal
 
 pub returns-in-Err-Memory-clause-list : goal.returns-in-Err-Memory-clause-list
@@ -40,3 +41,9 @@ same_record a b m n is = cc
 pub returns-in-Ok-Record-clause-record_leaves : goal.returns-in-Ok-Record-clause-record_leaves
 returns-in-Ok-Record-clause-record_leaves g c = λ shelf images tells file threads is.
     rw (same_record _ _ _ _ (sym is ∙ c.in-Ok-Record.ensures.read ∙ ap Some c.in-Ok-Record.field-0-is)) (c.record_cmd.ensures.leaves shelf images tells)
+
+pub returns-in-Err-Memory-clause-check : goal.returns-in-Err-Memory-clause-check
+returns-in-Err-Memory-clause-check g c = λ shelf disk output file is. record { outcome = Err Memory; ends = refl; answered = refl }
+
+pub returns-in-Err-Memory-clause-worker : goal.returns-in-Err-Memory-clause-worker
+returns-in-Err-Memory-clause-worker g c = λ input output is. unserved g.R.Driver.creates _ _

@@ -1,5 +1,5 @@
 use Rattle.std.proofs.Common.{◌∙◌, sym, ap, refl, subst}
-use Rattle.foz_tool.proofs.OneRecord.{open_runs, record_runs, once_ends, rose_since, open_early, once_early}
+use Rattle.foz_tool.proofs.OneRecord.{open_runs, record_runs, once_ends, rose_since, open_early, once_early, open_not_read, once_not_read}
 use Rattle.foz_tool.proofs.recording.record_once.Goals as goal
 
 pub returns-in-Err-clause-leaves : goal.returns-in-Err-clause-leaves
@@ -22,3 +22,9 @@ returns-clause-leaves g c = λ told durable entries held.
 
 pub returns-clause-early : goal.returns-clause-early
 returns-clause-early g c = once_early _ _ c.record_and_flush-outcome.ensures.stopped
+
+pub returns-in-Err-clause-not_read : goal.returns-in-Err-clause-not_read
+returns-in-Err-clause-not_read g c = open_not_read _ _ c.from.ensures
+
+pub returns-clause-not_read : goal.returns-clause-not_read
+returns-clause-not_read g c = once_not_read _ _ c.record_and_flush-outcome.ensures.stopped
