@@ -148,4 +148,5 @@ def main():
     print(f"stops of record: {by_call} at calls and {by_time} at drawn moments left whole batches")
 
 
-main()
+if __name__ == "__main__":
+    main()
