@@ -9,14 +9,14 @@ use std::alloc::Global;
 pub(crate) fn words_of_bytes(alloc: Global, bytes: &[u8]) -> Result<Option<Row<u32>>, NoMemory>
     ensures { IfOk result (λ words. words ≡ code_words bytes.now) }
 {
-    let mut words = Row::new(alloc);
+    let mut words = Vec::with_capacity(alloc, bytes.len() / 4)?;
     let mut rest = bytes;
     while let Some((word, more)) = first_word(rest) {
         words.push(word)?;
         rest = more;
     }
     if rest.is_empty() {
-        Ok(Some(words))
+        Ok(Some(Row::from_vec(words)))
     } else {
         Ok(None)
     }
@@ -39,7 +39,7 @@ pub(crate) fn bytes_of_words(alloc: Global, words: &[u32]) -> Result<Row<u8>, No
     ensures bytes { IfOk result (λ bytes. bytes ≡ code_bytes words.now) }
     ensures read_again { IfOk result (λ bytes. code_words bytes ≡ Some words.now) }
 {
-    let mut bytes = Vec::new(alloc);
+    let mut bytes = Vec::with_capacity(alloc, 4 * words.len())?;
     for word in words {
         put_le32(&mut bytes, *word)?;
     }

@@ -4,6 +4,8 @@ ghost use Rattle.float_fold.specs.Pieces.{begins_number, goes_on_number, is_floa
 ghost use Rattle.float_fold.specs.Folding.{folded_piece, folded_token};
 ghost use Rattle.float_fold.specs.Fate.{outcome};
 
+use memchr::memchr2;
+
 /// Whether a number token begins with the byte.
 pub fn begins_number(byte: u8) -> bool
     ensures { result ≡ begins_number byte }
@@ -40,15 +42,14 @@ pub fn rest_of_piece(first: u8, bytes: &[u8]) -> usize
 fn rest_of_text(bytes: &[u8]) -> usize
     ensures { result ≡ length (text_rest false bytes.now) }
 {
-    let mut escaped = false;
-    for (at, byte) in bytes.iter().enumerate() {
-        if escaped {
-            escaped = false;
-        } else if *byte == b'"' {
-            return at + 1;
-        } else {
-            escaped = *byte == b'\\';
+    let mut at = 0;
+    while let Some(plain) = memchr2(b'"', b'\\', &bytes[at..]) {
+        let mark = at + plain;
+        if bytes[mark] == b'"' {
+            return mark + 1;
         }
+        // The byte behind a backslash is passed over, where there is one.
+        at = bytes.len().min(mark + 2);
     }
     bytes.len()
 }

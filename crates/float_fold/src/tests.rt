@@ -11,7 +11,7 @@ fn folds_to(text: &[u8], expected: &[u8], alloc: Global) -> bool {
 
 #[test]
 fn zeros_and_ones_fold_outside_texts(rt: HostRuntime) {
-    let table: [(&[u8], &[u8]); 13] = [
+    let table: [(&[u8], &[u8]); 14] = [
         (b"", b""),
         (
             b"{\"minLod\":0.0,\"maxLod\":1.0}",
@@ -26,6 +26,10 @@ fn zeros_and_ones_fold_outside_texts(rt: HostRuntime) {
         (b"\"0.5", b"\"0.5"),
         (b"\"a\\\"0.5\\\\\",0.0", b"\"a\\\"0.5\\\\\",0"),
         (b"\"\\", b"\"\\"),
+        (
+            b"{\"0.5, behind so many bytes that a search for a quote takes them at once, \\\", 0.5\":1.0}",
+            b"{\"0.5, behind so many bytes that a search for a quote takes them at once, \\\", 0.5\":1}",
+        ),
         (b"[-12,+7,00,true,null]", b"[-12,+7,00,true,null]"),
         (b"x.e", b"x.e"),
     ];

@@ -1,12 +1,7 @@
 -- Where the first line ends, and how many lines there are.
-use Rattle.std.proofs.Common.{◌≡◌, ◌≢◌, ℕ, suc, ◌+◌, ◌≤◌, ◌==◌, List, [], ◌∷◌, take, drop, length, Bool, true, false, cond, Option, Some, None, nat_lt, inl, inr, refl, sym, ap, ◌∙◌, subst, add-one, arith}
-use Rattle.std.specs.Prelude.{position}
-use Rattle.std.specs.List.{position_or_len}
-use Rattle.std.proofs.lemmas.Bool.{cases_lt, lt-ltb, le-ltb}
+use Rattle.std.proofs.Common.{◌≡◌, ◌≢◌, ℕ, zero, suc, ◌+◌, ◌≤◌, ◌==◌, List, [], ◌∷◌, take, drop, length, Bool, true, false, Option, Some, None, refl, add-one, arith}
+use Rattle.memchr.specs.Find.{IsFirstByte, is_byte}
 use Rattle.input_lines.specs.Lines.{lines_of, in_front}
-
-abbrev pub is_line_feed : ℕ → Bool
-is_line_feed byte = byte == 10
 
 -- the lines, where the first line feed stands there
 abbrev pub split_at : List ℕ → Option ℕ → List (List ℕ)
@@ -14,32 +9,37 @@ split_at bytes (Some at) = take at bytes ∷ lines_of (drop (at + 1) bytes)
 split_at [] None = []
 split_at (byte ∷ bytes) None = (byte ∷ bytes) ∷ []
 
-abbrev where_passes : Bool → ℕ → Option ℕ
-where_passes within at = cond within (Some at) None
+abbrev IsLineFeed : List ℕ → Option ℕ → Type 0
+IsLineFeed bytes found = IsFirstByte (is_byte 10) bytes found
 
-shifted : (within : Bool) (b : ℕ) (bs : List ℕ) (at next : ℕ) → next ≡ suc at → in_front b (split_at bs (where_passes within at)) ≡ split_at (b ∷ bs) (where_passes within next)
-shifted false b [] at next e = refl
-shifted false b (c ∷ cs) at next e = refl
-shifted true b bs at next e = rw (e, add-one (suc at), add-one at) refl
+behind_none : (b : ℕ) (bs : List ℕ) → IsLineFeed (b ∷ bs) None → IsLineFeed bs None
+behind_none b bs none = λ k low high feed. none (suc k) (omega arith) (omega arith) feed
 
-further : (m n next : ℕ) → next ≡ suc m → nat_lt next (suc n) ≡ nat_lt m n
-further m n next e = elim (cases_lt m n) [
-  | inl lt ↦ lt-ltb next (suc n) (omega arith) ∙ sym (lt-ltb m n lt)
-  | inr le ↦ le-ltb next (suc n) (omega arith) ∙ sym (le-ltb m n le)
-]
+behind_some : (b : ℕ) (bs : List ℕ) (at : ℕ) → IsLineFeed (b ∷ bs) (Some (suc at)) → IsLineFeed bs (Some at)
+behind_some b bs at found =
+    let first = found.0 in
+    let high = first.high in
+    (record { low = omega arith; high = omega arith; before = λ k low below feed. first.before (suc k) (omega arith) (omega arith) feed }, found.1)
 
-step : (b : ℕ) (bs : List ℕ) (feed : Bool) → (b == 10) ≡ feed → lines_of bs ≡ split_at bs (position is_line_feed bs) → lines_of (b ∷ bs) ≡ split_at (b ∷ bs) (position is_line_feed (b ∷ bs))
+without : (b : ℕ) (bs : List ℕ) → in_front b (split_at bs None) ≡ (b ∷ bs) ∷ []
+without b [] = refl
+without b (c ∷ cs) = refl
+
+step : (b : ℕ) (bs : List ℕ) (found : Option ℕ) (feed : Bool) → (b == 10) ≡ feed → ((behind : Option ℕ) → IsLineFeed bs behind → lines_of bs ≡ split_at bs behind) → IsLineFeed (b ∷ bs) found → lines_of (b ∷ bs) ≡ split_at (b ∷ bs) found
 unfolding lines_of
-step b bs true e ih = rw (e, lt-ltb 0 (suc (length bs)) (omega arith)) refl
-step b bs false e ih =
-    let at = position_or_len is_line_feed bs in
-    let next : 1 + at ≡ suc at = omega arith in
-    rw (e, ih, further at (length bs) (1 + at) next) (shifted (nat_lt at (length bs)) b bs at (1 + at) next)
+step b bs None true e ih none = absurd (none 0 (omega arith) (omega arith) e)
+step b bs (Some zero) true e ih found = rw e refl
+step b bs (Some (suc at)) true e ih found = let first = found.0 in absurd (first.before 0 (omega arith) (omega arith) e)
+step b bs None false e ih none = rw (e, ih None (behind_none b bs none)) (without b bs)
+step b bs (Some zero) false e ih found = absurd (let feed : (b == 10) ≡ true = found.1 in cc)
+step b bs (Some (suc at)) false e ih found = rw (e, ih (Some at) (behind_some b bs at found), add-one (suc at), add-one at) refl
 
-pub is_split : (bytes : List ℕ) → lines_of bytes ≡ split_at bytes (position is_line_feed bytes)
+-- the first line feed splits off the first line
+pub is_split : (bytes : List ℕ) (found : Option ℕ) → IsLineFeed bytes found → lines_of bytes ≡ split_at bytes found
 unfolding lines_of
-is_split [] = refl
-is_split (b ∷ bs) = step b bs (b == 10) refl (is_split bs)
+is_split [] None none = refl
+is_split [] (Some at) found = let first = found.0 in let high = first.high in absurd (omega arith)
+is_split (b ∷ bs) found is = step b bs found (b == 10) refl (is_split bs) is
 
 in_front_few : (b : ℕ) (lines : List (List ℕ)) (n : ℕ) → length lines ≤ n → length (in_front b lines) ≤ suc n
 in_front_few b [] n le = omega arith
@@ -57,10 +57,7 @@ lines_are_few [] = omega arith
 lines_are_few (b ∷ bs) = few_step b bs (b == 10) refl (lines_are_few bs)
 
 -- a last line without a line feed
-pub last_line : (b : ℕ) (bs : List ℕ) → None ≡ position is_line_feed (b ∷ bs) → lines_of (b ∷ bs) ≡ (b ∷ bs) ∷ lines_of []
+pub last_line : (bytes : List ℕ) → length bytes ≢ 0 → IsLineFeed bytes None → lines_of bytes ≡ bytes ∷ lines_of []
 unfolding lines_of
-last_line b bs none = is_split (b ∷ bs) ∙ ap (split_at (b ∷ bs)) (sym none)
-
-pub last_of : (bytes : List ℕ) → length bytes ≢ 0 → None ≡ position is_line_feed bytes → lines_of bytes ≡ bytes ∷ lines_of []
-last_of [] some none = absurd (some refl)
-last_of (b ∷ bs) some none = last_line b bs none
+last_line [] some none = absurd (some refl)
+last_line (b ∷ bs) some none = is_split (b ∷ bs) None none

@@ -1,5 +1,7 @@
-ghost use Rattle.std.specs.Prelude.{◌≡◌, ◌≤◌, ◌<◌, ◌+◌, ◌==◌, ◌∷◌, [], position, length, IfSome, IfNone};
+ghost use Rattle.std.specs.Prelude.{◌≡◌, ◌≤◌, ◌<◌, ◌+◌, ◌∷◌, [], length, IfSome, IfNone};
 ghost use Rattle.input_lines.specs.Lines.{lines_of};
+
+use memchr::memchr;
 
 /// The first line of what is left of an input, without its line feed, and what stands behind it. It is `None` exactly
 /// where nothing is left.
@@ -12,14 +14,8 @@ pub fn first_line(input: &[u8]) -> Option<(&[u8], &[u8])>
     if input.is_empty() {
         return None;
     }
-    match line_feed(input) {
+    match memchr(b'\n', input) {
         Some(at) => Some((&input[..at], &input[at + 1..])),
         None => Some((input, &[])),
     }
-}
-
-fn line_feed(bytes: &[u8]) -> Option<usize>
-    ensures { result ≡ position (λ byte. byte == 10) bytes.now }
-{
-    bytes.iter().position(|byte| *byte == b'\n')
 }

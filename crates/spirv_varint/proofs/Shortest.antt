@@ -1,5 +1,5 @@
 -- The varint that is written, and that it is the only shortest one.
-use Rattle.std.proofs.Common.{ℕ, zero, suc, ◌≡◌, ◌≢◌, ◌+◌, ◌*◌, ◌/◌, ◌%◌, ◌^◌, ◌<◌, ◌≤◌, ◌⊎◌, inl, inr, List, [], ◌∷◌, ◌++◌, length, get_or, refl, ap, sym, ◌∙◌, append_assoc, arith}
+use Rattle.std.proofs.Common.{ℕ, zero, suc, ◌≡◌, ◌≢◌, ◌+◌, ◌*◌, ◌/◌, ◌%◌, ◌^◌, ◌<◌, ◌≤◌, ◌⊎◌, inl, inr, List, [], ◌∷◌, ◌++◌, length, get_or, refl, ap, sym, ◌∙◌, arith}
 use Rattle.std.proofs.lemmas.Bool.{cases_lt, lt-ltb, le-ltb}
 use Rattle.std.proofs.lemmas.List.Concat.{flat_map-cons}
 use Rattle.std.proofs.Math.Nat.{pow-succ'}
@@ -123,28 +123,37 @@ unfolding Splits spelling
 spelling_splits [] fits = refl
 spelling_splits (word ∷ words) fits = (varint word, spelling words, (varint_shortest word (fits 0)).varint, flat_map-cons varint word words, spelling_splits words (λ k. fits (suc k)))
 
--- ---- the loop that writes
+-- ---- the varint of a word, by how many bytes it has
 
--- what is still to be written completes the varint
-pub record Completes (old bytes : List ℕ) (word rest : ℕ) : Type 0 where
-  pub more : ℕ
-  pub room : rest < 16 * 128 ^ more
-  pub whole : bytes ++ shortest more rest ≡ old ++ varint word
+goes_on : (more word : ℕ) (bytes : List ℕ) → 128 ≤ word → bytes ≡ shortest more (word / 128) → (128 + word % 128) ∷ bytes ≡ shortest (suc more) word
+goes_on more word bytes large rest = ap (λ bs. (128 + word % 128) ∷ bs) rest ∙ sym (shortest-large more word large)
 
-pub starts : (old : List ℕ) (word : ℕ) → word < 2 ^ 32 → Completes old old word word
-unfolding varint
-starts old word lt = record { more = 4; room = lt; whole = refl }
+ends : (more word : ℕ) → word < 128 → word ∷ [] ≡ shortest more word
+ends more word small = sym (shortest-small more word small)
 
-pub goes_on : (old bytes : List ℕ) (word rest : ℕ) → Completes old bytes word rest → 128 ≤ rest → Completes old (bytes ++ (128 + rest % 128) ∷ []) word (rest / 128)
-goes_on old bytes word rest c large = step c.more c.room c.whole
-  where
-    step : (more : ℕ) → rest < 16 * 128 ^ more → bytes ++ shortest more rest ≡ old ++ varint word → Completes old (bytes ++ (128 + rest % 128) ∷ []) word (rest / 128)
-    step zero room whole = absurd (omega arith)
-    step (suc more) room whole = record {
-      more = more;
-      room = let power = pow-succ' 128 more in omega arith;
-      whole = append_assoc bytes ((128 + rest % 128) ∷ []) (shortest more (rest / 128)) ∙ (ap (λ bs. bytes ++ bs) (sym (shortest-large more rest large)) ∙ whole);
-    }
+module _ (word : ℕ) where
+  pub one : word < 128 → word ∷ [] ≡ varint word
+  unfolding varint
+  one small = ends 4 word small
 
-pub ends : (old bytes : List ℕ) (word rest : ℕ) → Completes old bytes word rest → rest < 128 → bytes ++ rest ∷ [] ≡ old ++ varint word
-ends old bytes word rest c small = ap (λ bs. bytes ++ bs) (sym (shortest-small c.more rest small)) ∙ c.whole
+  pub two : 128 ≤ word → word / 128 < 128 → (128 + word % 128) ∷ word / 128 ∷ [] ≡ varint word
+  unfolding varint
+  two first small = goes_on 3 word _ first (ends 3 (word / 128) small)
+
+  pub three : 128 ≤ word → 128 ≤ word / 128 → word / 128 / 128 < 128
+      → (128 + word % 128) ∷ (128 + word / 128 % 128) ∷ word / 128 / 128 ∷ [] ≡ varint word
+  unfolding varint
+  three first second small = goes_on 3 word _ first (goes_on 2 (word / 128) _ second (ends 2 (word / 128 / 128) small))
+
+  pub four : 128 ≤ word → 128 ≤ word / 128 → 128 ≤ word / 128 / 128 → word / 128 / 128 / 128 < 128
+      → (128 + word % 128) ∷ (128 + word / 128 % 128) ∷ (128 + word / 128 / 128 % 128) ∷ word / 128 / 128 / 128 ∷ [] ≡ varint word
+  unfolding varint
+  four first second third small =
+      goes_on 3 word _ first (goes_on 2 (word / 128) _ second (goes_on 1 (word / 128 / 128) _ third (ends 1 (word / 128 / 128 / 128) small)))
+
+  pub five : word < 2 ^ 32 → 128 ≤ word → 128 ≤ word / 128 → 128 ≤ word / 128 / 128 → 128 ≤ word / 128 / 128 / 128
+      → (128 + word % 128) ∷ (128 + word / 128 % 128) ∷ (128 + word / 128 / 128 % 128) ∷ (128 + word / 128 / 128 / 128 % 128) ∷ word / 128 / 128 / 128 / 128 ∷ [] ≡ varint word
+  unfolding varint
+  five fits first second third fourth =
+      goes_on 3 word _ first (goes_on 2 (word / 128) _ second (goes_on 1 (word / 128 / 128) _ third
+      (goes_on 0 (word / 128 / 128 / 128) _ fourth (ends 0 (word / 128 / 128 / 128 / 128) (omega arith)))))

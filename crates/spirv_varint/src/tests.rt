@@ -10,11 +10,17 @@ fn is_row(bytes: &[u8], words: &[u32], alloc: Global) -> bool {
 
 #[test]
 fn each_word_has_its_shortest_varint(rt: HostRuntime) {
-    let table: [(u32, &[u8]); 5] = [
+    let table: [(u32, &[u8]); 11] = [
         (0, &[0]),
         (127, &[0x7F]),
         (128, &[0x80, 1]),
+        (16_383, &[0xFF, 0x7F]),
+        (16_384, &[0x80, 0x80, 1]),
+        (2_097_151, &[0xFF, 0xFF, 0x7F]),
+        (2_097_152, &[0x80, 0x80, 0x80, 1]),
         (0x0723_0203, &[0x83, 0x84, 0x8C, 0x39]),
+        (268_435_455, &[0xFF, 0xFF, 0xFF, 0x7F]),
+        (268_435_456, &[0x80, 0x80, 0x80, 0x80, 1]),
         (u32::MAX, &[0xFF, 0xFF, 0xFF, 0xFF, 0x0F]),
     ];
     for (word, bytes) in table.iter() {
