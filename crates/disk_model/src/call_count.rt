@@ -18,9 +18,18 @@ pub trait Listed {
 pub trait Bounded {
     /// How many bytes it takes in all.
     ghost room: { Self → ℕ };
+}
 
-    /// How many of them are taken. What it was made with counts too.
+/// An object in memory whose room fills up.
+pub trait Filled {
+    /// How many bytes of the room are taken. What it was made with counts too.
     ghost used: { Self → ℕ };
+}
+
+/// An object in memory that moves at most some bytes in a call.
+pub trait Stepped {
+    /// The most bytes of one call.
+    ghost step: { Self → ℕ };
 }
 
 /// An object in memory that bears some calls, and fails at each later one.

@@ -20,7 +20,7 @@ mod std_streams;
 mod synced;
 
 pub use call::Call;
-pub use call_count::{Bounded, Limited, Listed};
+pub use call_count::{Bounded, Filled, Limited, Listed, Stepped};
 pub use disk::Disk;
 pub use fault::Failed;
 pub use file_disk::FileDisk;

@@ -7,7 +7,7 @@ ghost use Rattle.disk_model.specs.Listed.{next_number};
 ghost use Rattle.disk_model.specs.Memory.{FailsAt, after_calls, bytes_written, history_of, state_of};
 
 use crate::call::Call;
-use crate::call_count::{Bounded, Limited, Listed};
+use crate::call_count::{Bounded, Filled, Limited, Listed};
 use crate::{Disk, Failed};
 use std::alloc::{AllocError, Global};
 
@@ -60,7 +60,7 @@ impl MemDisk {
         ensures moment { IfOk result (λ disk. (⟦<MemDisk as Disk>⟧.history disk).moment ≡ 0) }
         ensures faults { IfOk result (λ disk. ⟦<MemDisk as Disk>⟧.faults disk ≡ 0) }
         ensures room { IfOk result (λ disk. ⟦<MemDisk as Bounded>⟧.room disk ≡ room) }
-        ensures used { IfOk result (λ disk. ⟦<MemDisk as Bounded>⟧.used disk ≡ length bytes.items) }
+        ensures used { IfOk result (λ disk. ⟦<MemDisk as Filled>⟧.used disk ≡ length bytes.items) }
         ensures limit { IfOk result (λ disk. ⟦<MemDisk as Limited>⟧.limit disk ≡ calls) }
         ensures next { IfOk result (λ disk. ⟦<MemDisk as Listed>⟧.next disk ≡ 0) }
         ensures listed { IfOk result (λ disk. ⟦<MemDisk as Listed>⟧.failing disk ≡ failing.items) }
@@ -103,7 +103,7 @@ impl MemDisk {
         ensures moment { (⟦<MemDisk as Disk>⟧.history result).moment ≡ 0 }
         ensures faults { ⟦<MemDisk as Disk>⟧.faults result ≡ 0 }
         ensures room { ⟦<MemDisk as Bounded>⟧.room result ≡ ⟦<MemDisk as Bounded>⟧.room self }
-        ensures used { ⟦<MemDisk as Bounded>⟧.used result ≡ length (⟦<MemDisk as Disk>⟧.content result) }
+        ensures used { ⟦<MemDisk as Filled>⟧.used result ≡ length (⟦<MemDisk as Disk>⟧.content result) }
         ensures limit { ⟦<MemDisk as Limited>⟧.limit result ≡ ⟦<MemDisk as Limited>⟧.limit self }
         ensures next { ⟦<MemDisk as Listed>⟧.next result ≡ 0 }
         ensures listed { ⟦<MemDisk as Listed>⟧.failing result ≡ [] }
@@ -221,7 +221,9 @@ impl MemDisk {
 
 impl Bounded for MemDisk {
     ghost room = { λ disk. disk.room };
+}
 
+impl Filled for MemDisk {
     ghost used = { λ disk. length disk.first.items + length disk.pieces.items };
 }
 
@@ -258,7 +260,7 @@ impl Disk for MemDisk {
         ensures listed { ⟦<MemDisk as Listed>⟧.failing self.new ≡ ⟦<MemDisk as Listed>⟧.failing self.old }
         ensures limit { ⟦<MemDisk as Limited>⟧.limit self.new ≡ ⟦<MemDisk as Limited>⟧.limit self.old }
         ensures room { ⟦<MemDisk as Bounded>⟧.room self.new ≡ ⟦<MemDisk as Bounded>⟧.room self.old }
-        ensures used { ⟦<MemDisk as Bounded>⟧.used self.new ≡ ⟦<MemDisk as Bounded>⟧.used self.old }
+        ensures used { ⟦<MemDisk as Filled>⟧.used self.new ≡ ⟦<MemDisk as Filled>⟧.used self.old }
     {
         if self.fails_now() {
             return Err(self.fail());
@@ -278,7 +280,7 @@ impl Disk for MemDisk {
         ensures listed { ⟦<MemDisk as Listed>⟧.failing self.new ≡ ⟦<MemDisk as Listed>⟧.failing self.old }
         ensures limit { ⟦<MemDisk as Limited>⟧.limit self.new ≡ ⟦<MemDisk as Limited>⟧.limit self.old }
         ensures room { ⟦<MemDisk as Bounded>⟧.room self.new ≡ ⟦<MemDisk as Bounded>⟧.room self.old }
-        ensures used { ⟦<MemDisk as Bounded>⟧.used self.new ≡ ⟦<MemDisk as Bounded>⟧.used self.old }
+        ensures used { ⟦<MemDisk as Filled>⟧.used self.new ≡ ⟦<MemDisk as Filled>⟧.used self.old }
     {
         if self.fails_now() {
             return Err(self.fail());
@@ -295,13 +297,13 @@ impl Disk for MemDisk {
         ensures not_written { OnErr result (⟦<MemDisk as Disk>⟧.content self.new ≡ ⟦<MemDisk as Disk>⟧.content self.old) }
         ensures images { Changes (⟦<MemDisk as Disk>⟧.history self.old) (⟦<MemDisk as Disk>⟧.history self.new) (after_write (latest (⟦<MemDisk as Disk>⟧.history self.old)) at piece.now) result }
         ensures cause { HasCause (⟦<MemDisk as Disk>⟧.faults self.old) (⟦<MemDisk as Disk>⟧.faults self.new) result }
-        ensures exact { IsErr result ↔ (FailsAt (⟦<MemDisk as Listed>⟧.next self.old) (⟦<MemDisk as Limited>⟧.limit self.old) (⟦<MemDisk as Listed>⟧.failing self.old) ⊎ (⟦<MemDisk as Bounded>⟧.room self.old < ⟦<MemDisk as Bounded>⟧.used self.old + length piece.now)) }
+        ensures exact { IsErr result ↔ (FailsAt (⟦<MemDisk as Listed>⟧.next self.old) (⟦<MemDisk as Limited>⟧.limit self.old) (⟦<MemDisk as Listed>⟧.failing self.old) ⊎ (⟦<MemDisk as Bounded>⟧.room self.old < ⟦<MemDisk as Filled>⟧.used self.old + length piece.now)) }
         ensures counted { ⟦<MemDisk as Listed>⟧.next self.new ≡ next_number (⟦<MemDisk as Listed>⟧.next self.old) }
         ensures listed { ⟦<MemDisk as Listed>⟧.failing self.new ≡ ⟦<MemDisk as Listed>⟧.failing self.old }
         ensures limit { ⟦<MemDisk as Limited>⟧.limit self.new ≡ ⟦<MemDisk as Limited>⟧.limit self.old }
         ensures room { ⟦<MemDisk as Bounded>⟧.room self.new ≡ ⟦<MemDisk as Bounded>⟧.room self.old }
-        ensures used { OnOk result (⟦<MemDisk as Bounded>⟧.used self.new ≡ ⟦<MemDisk as Bounded>⟧.used self.old + length piece.now) }
-        ensures not_used { OnErr result (⟦<MemDisk as Bounded>⟧.used self.new ≡ ⟦<MemDisk as Bounded>⟧.used self.old) }
+        ensures used { OnOk result (⟦<MemDisk as Filled>⟧.used self.new ≡ ⟦<MemDisk as Filled>⟧.used self.old + length piece.now) }
+        ensures not_used { OnErr result (⟦<MemDisk as Filled>⟧.used self.new ≡ ⟦<MemDisk as Filled>⟧.used self.old) }
     {
         if self.fails_now() || !self.has_room(piece.len()) {
             return Err(self.fail());
@@ -328,7 +330,7 @@ impl Disk for MemDisk {
         ensures listed { ⟦<MemDisk as Listed>⟧.failing self.new ≡ ⟦<MemDisk as Listed>⟧.failing self.old }
         ensures limit { ⟦<MemDisk as Limited>⟧.limit self.new ≡ ⟦<MemDisk as Limited>⟧.limit self.old }
         ensures room { ⟦<MemDisk as Bounded>⟧.room self.new ≡ ⟦<MemDisk as Bounded>⟧.room self.old }
-        ensures used { ⟦<MemDisk as Bounded>⟧.used self.new ≡ ⟦<MemDisk as Bounded>⟧.used self.old }
+        ensures used { ⟦<MemDisk as Filled>⟧.used self.new ≡ ⟦<MemDisk as Filled>⟧.used self.old }
     {
         if self.fails_now() {
             return Err(self.fail());
@@ -350,7 +352,7 @@ impl Disk for MemDisk {
         ensures listed { ⟦<MemDisk as Listed>⟧.failing self.new ≡ ⟦<MemDisk as Listed>⟧.failing self.old }
         ensures limit { ⟦<MemDisk as Limited>⟧.limit self.new ≡ ⟦<MemDisk as Limited>⟧.limit self.old }
         ensures room { ⟦<MemDisk as Bounded>⟧.room self.new ≡ ⟦<MemDisk as Bounded>⟧.room self.old }
-        ensures used { ⟦<MemDisk as Bounded>⟧.used self.new ≡ ⟦<MemDisk as Bounded>⟧.used self.old }
+        ensures used { ⟦<MemDisk as Filled>⟧.used self.new ≡ ⟦<MemDisk as Filled>⟧.used self.old }
     {
         if self.fails_now() {
             return Err(self.fail());

@@ -138,8 +138,6 @@ impl MemShelf {
 // What a disk takes that is made here.
 impl Bounded for MemShelf {
     ghost room = { λ shelf. shelf.room };
-
-    ghost used = { λ shelf. 0 };
 }
 
 // How many calls a disk bears that is made here.

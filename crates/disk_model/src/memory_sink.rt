@@ -1,9 +1,9 @@
 // A sink in memory.
-ghost use Rattle.std.specs.Prelude.{◌≡◌, ◌<◌, ◌≤◌, ◌++◌, [], length, take, IfOk, OnErr, IsErr, vec_capacity};
+ghost use Rattle.std.specs.Prelude.{◌≡◌, ◌⊎◌, ◌-◌, ◌<◌, ◌≤◌, ◌++◌, ◌↔◌, [], length, take, min, IfOk, OnErr, IsErr, vec_capacity};
 ghost use Rattle.disk_model.specs.Faults.{HasCause};
 ghost use Rattle.disk_model.specs.Listed.{IsListed, next_number};
 
-use crate::call_count::{Bounded, CallCount, Listed};
+use crate::call_count::{Bounded, CallCount, Filled, Listed, Stepped};
 use crate::memory_disk::extend_within;
 use crate::{Failed, Sink};
 use std::alloc::{AllocError, Global};
@@ -35,6 +35,8 @@ impl MemSink {
         ensures next { IfOk result (λ sink. ⟦<MemSink as Listed>⟧.next sink ≡ 0) }
         ensures listed { IfOk result (λ sink. ⟦<MemSink as Listed>⟧.failing sink ≡ failing.items) }
         ensures room { IfOk result (λ sink. ⟦<MemSink as Bounded>⟧.room sink ≡ room) }
+        ensures used { IfOk result (λ sink. ⟦<MemSink as Filled>⟧.used sink ≡ 0) }
+        ensures step { IfOk result (λ sink. ⟦<MemSink as Stepped>⟧.step sink ≡ step) }
     {
         Ok(MemSink {
             written: Vec::with_capacity(alloc, room)?,
@@ -54,8 +56,14 @@ impl MemSink {
 
 impl Bounded for MemSink {
     ghost room = { λ sink. sink.room };
+}
 
+impl Filled for MemSink {
     ghost used = { λ sink. length sink.written.items };
+}
+
+impl Stepped for MemSink {
+    ghost step = { λ sink. sink.step };
 }
 
 impl Listed for MemSink {
@@ -77,11 +85,14 @@ impl Sink for MemSink {
         ensures taken { IfOk result (λ n. ⟦<MemSink as Sink>⟧.written self.new ≡ ⟦<MemSink as Sink>⟧.written self.old ++ take n piece.now) }
         ensures nothing { OnErr result (⟦<MemSink as Sink>⟧.written self.new ≡ ⟦<MemSink as Sink>⟧.written self.old) }
         ensures cause { HasCause (⟦<MemSink as Sink>⟧.faults self.old) (⟦<MemSink as Sink>⟧.faults self.new) result }
-        ensures listed_fails { IsListed (⟦<MemSink as Listed>⟧.failing self.old) (⟦<MemSink as Listed>⟧.next self.old) → IsErr result }
+        ensures most { IfOk result (λ n. n ≡ min (min (length piece.now) (⟦<MemSink as Stepped>⟧.step self.old)) (⟦<MemSink as Bounded>⟧.room self.old - ⟦<MemSink as Filled>⟧.used self.old)) }
+        ensures exact { IsErr result ↔ (IsListed (⟦<MemSink as Listed>⟧.failing self.old) (⟦<MemSink as Listed>⟧.next self.old)
+            ⊎ ((0 < length piece.now) × (⟦<MemSink as Bounded>⟧.room self.old ≤ ⟦<MemSink as Filled>⟧.used self.old))) }
         ensures counted { ⟦<MemSink as Listed>⟧.next self.new ≡ next_number (⟦<MemSink as Listed>⟧.next self.old) }
         ensures listed { ⟦<MemSink as Listed>⟧.failing self.new ≡ ⟦<MemSink as Listed>⟧.failing self.old }
         ensures room { ⟦<MemSink as Bounded>⟧.room self.new ≡ ⟦<MemSink as Bounded>⟧.room self.old }
-        ensures within { IfOk result (λ n. length (⟦<MemSink as Sink>⟧.written self.new) ≤ ⟦<MemSink as Bounded>⟧.room self.old) }
+        ensures used { ⟦<MemSink as Filled>⟧.used self.new ≡ length (⟦<MemSink as Sink>⟧.written self.new) }
+        ensures step { ⟦<MemSink as Stepped>⟧.step self.new ≡ ⟦<MemSink as Stepped>⟧.step self.old }
     {
         let taken = piece
             .len()

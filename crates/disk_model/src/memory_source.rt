@@ -1,10 +1,10 @@
 // A source in memory.
-ghost use Rattle.std.specs.Prelude.{◌≡◌, ◌+◌, ◌-◌, ◌<◌, ◌≤◌, ◌^◌, ◌++◌, ◌↔◌, [], length, take, drop, IfOk, OnErr, IsErr};
+ghost use Rattle.std.specs.Prelude.{◌≡◌, ◌+◌, ◌-◌, ◌<◌, ◌≤◌, ◌^◌, ◌++◌, ◌↔◌, [], length, take, drop, min, IfOk, OnErr, IsErr};
 ghost use Rattle.disk_model.specs.Faults.{HasCause};
 ghost use Rattle.disk_model.specs.Listed.{IsListed, next_number};
 ghost use Rattle.std.proofs.Math.Nat.{le_trans, sub-le};
 
-use crate::call_count::{CallCount, Listed};
+use crate::call_count::{CallCount, Listed, Stepped};
 use crate::{Failed, Source};
 
 #[derive(Drop)]
@@ -27,6 +27,7 @@ impl MemSource {
         requires small { length bytes.items ≤ 2 ^ 62 }
         ensures left { ⟦<MemSource as Source>⟧.left result ≡ bytes.items }
         ensures bound { ⟦<MemSource as Source>⟧.bound result ≡ length bytes.items }
+        ensures step { ⟦<MemSource as Stepped>⟧.step result ≡ step }
         ensures faults { ⟦<MemSource as Source>⟧.faults result ≡ 0 }
         ensures next { ⟦<MemSource as Listed>⟧.next result ≡ 0 }
         ensures listed { ⟦<MemSource as Listed>⟧.failing result ≡ failing.items }
@@ -38,6 +39,10 @@ impl MemSource {
             calls: CallCount::new(failing),
         }
     }
+}
+
+impl Stepped for MemSource {
+    ghost step = { λ source. source.step };
 }
 
 impl Listed for MemSource {
@@ -63,9 +68,11 @@ impl Source for MemSource {
         ensures nearer { IfOk result (λ n. ⟦<MemSource as Source>⟧.bound self.new + n ≤ ⟦<MemSource as Source>⟧.bound self.old) }
         ensures no_further { OnErr result (⟦<MemSource as Source>⟧.bound self.new ≤ ⟦<MemSource as Source>⟧.bound self.old) }
         ensures cause { HasCause (⟦<MemSource as Source>⟧.faults self.old) (⟦<MemSource as Source>⟧.faults self.new) result }
+        ensures most { IfOk result (λ n. n ≡ min (min (length buf.old) (⟦<MemSource as Stepped>⟧.step self.old)) (length (⟦<MemSource as Source>⟧.left self.old))) }
         ensures exact { IsErr result ↔ IsListed (⟦<MemSource as Listed>⟧.failing self.old) (⟦<MemSource as Listed>⟧.next self.old) }
         ensures counted { ⟦<MemSource as Listed>⟧.next self.new ≡ next_number (⟦<MemSource as Listed>⟧.next self.old) }
         ensures listed { ⟦<MemSource as Listed>⟧.failing self.new ≡ ⟦<MemSource as Listed>⟧.failing self.old }
+        ensures step { ⟦<MemSource as Stepped>⟧.step self.new ≡ ⟦<MemSource as Stepped>⟧.step self.old }
     {
         if self.calls.fails_next() {
             return Err(self.calls.fail());
