@@ -1,4 +1,3 @@
-pub mod Fronts
 pub mod HashText
 pub mod ListText
 pub mod PutText

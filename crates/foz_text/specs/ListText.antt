@@ -6,8 +6,8 @@ use Rattle.foz_words.specs.Hex.{hex_text}
 use Rattle.foz_words.specs.declared.key.Key.{Key}
 use Rattle.foz_entry.specs.declared.cut.Entry.{Entry}
 use Rattle.foz_entry.specs.declared.damage.EntryCause.{EntryCause}
-use Rattle.foz_entry.specs.declared.damage.EntryCause.TheVariants.{Deflate, BadFormat, TooLarge, SizeDiffers, BadChecksum}
 use Rattle.foz_entry.specs.Damage.{damage}
+use Rattle.report_words.specs.Words.{damage_words}
 use Rattle.foz_text.specs.declared.list_text.Soundness.{Soundness}
 use Rattle.foz_text.specs.declared.list_text.Soundness.TheVariants.{Sound, Duplicate, Damaged}
 use Rattle.foz_archive.specs.declared.scanned.Scanned.{Scanned}
@@ -34,11 +34,7 @@ standing before entry = standing_after (damage entry.head entry.payload) (holds 
 abbrev pub standing_text : Soundness → List ℕ
 standing_text Sound = codes "ok"
 standing_text Duplicate = codes "duplicate"
-standing_text (Damaged Deflate) = codes "deflate"
-standing_text (Damaged (BadFormat n)) = codes "format " ++ decimal n
-standing_text (Damaged (TooLarge size)) = codes "too large"
-standing_text (Damaged (SizeDiffers a b)) = codes "sizes " ++ decimal a ++ codes " " ++ decimal b
-standing_text (Damaged (BadChecksum stated found)) = codes "checksum " ++ hex_text 8 stated ++ codes " " ++ hex_text 8 found
+standing_text (Damaged cause) = damage_words cause
 
 abbrev pub is_ok_word : Soundness → Bool
 is_ok_word Sound = true

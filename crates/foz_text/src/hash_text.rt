@@ -2,14 +2,14 @@
 ghost use Rattle.std.specs.Prelude.{◌≡◌, ◌<◌, ◌^◌, ◌++◌, length, IfOk, OnOk, OnErr};
 ghost use Rattle.state_words.specs.Words.{IsOrdinaryState};
 ghost use Rattle.capture_lines.specs.Line.{line_meaning};
-ghost use Rattle.foz_text.specs.Fronts.{BeginsWith};
+ghost use Rattle.report_words.specs.Fronts.{BeginsWith};
 ghost use Rattle.foz_text.specs.HashText.{hashed_line, hash_line, hash_text, is_read, is_readable};
 
-use crate::digits::Hash;
 use crate::record_text::push_refused;
 use capture_lines::{LineError, kind_word, read_line};
 use foz_words::NoMemory;
 use input_lines::first_line;
+use report_words::Hash;
 use state_words::{State, key_of};
 use std::alloc::Global;
 

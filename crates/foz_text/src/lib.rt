@@ -2,7 +2,6 @@
 #![tactic(auto)]
 
 mod cause;
-mod digits;
 mod hash_text;
 mod line_cause;
 mod list_text;

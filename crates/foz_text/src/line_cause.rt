@@ -1,31 +1,9 @@
 //! Why a line of a capture can't be read, as it is printed.
-ghost use Rattle.std.specs.Prelude.{◌≡◌};
-ghost use Rattle.foz_text.specs.LineCause.{field_word};
-
 use crate::cause::CauseText;
 use capture_lines::LineError;
 use foz_words::NoMemory;
-use json_fold::FieldCause;
+use report_words::field_word;
 use std::alloc::Global;
-
-/// The word of why a member can't be read.
-#[tactic(auto, unfolding(crate::specs::LineCause::field_word))]
-fn field_word(cause: FieldCause) -> &'static str
-    ensures { result.now ≡ field_word cause }
-{
-    match cause {
-        FieldCause::HasPNext => "pnext",
-        FieldCause::NotNumber => "number",
-        FieldCause::TooLarge => "large",
-        FieldCause::NotUnit => "unit",
-        FieldCause::NotText => "text",
-        FieldCause::NotList => "list",
-        FieldCause::NotObject => "object",
-        FieldCause::BadLength => "length",
-        FieldCause::BadHash => "hash",
-        FieldCause::BadBase64 => "base64",
-    }
-}
 
 #[tactic(auto, unfolding(crate::specs::LineCause::line_cause_text))]
 impl CauseText for LineError {

@@ -1,13 +1,13 @@
 //! The text of the command `list`.
 ghost use Rattle.std.specs.Prelude.{◌≡◌, ◌≤◌, ◌++◌, ◌∷◌, [], List, Some, OnOk, OnErr, IfOk};
 ghost use Rattle.foz_entry.specs.declared.cut.Entry.{Entry};
-ghost use Rattle.foz_text.specs.Fronts.{BeginsWith};
+ghost use Rattle.report_words.specs.Fronts.{BeginsWith};
 ghost use Rattle.foz_text.specs.ListText.{AreKeysHeld, standing, standing as standing_in, standing_text, is_ok_word, line, rest_word, last_line, list_text, is_flawless};
 
-use crate::digits::{Checksum, Hash};
 use foz_archive::Scanned;
 use foz_entry::{Entry, EntryCause, check};
 use foz_words::{Key, NoMemory};
+use report_words::{Damage, Hash};
 use std::alloc::Global;
 use std::collections::HashSet;
 use std::fmt;
@@ -27,13 +27,9 @@ impl fmt::Display for Soundness {
         match self {
             Soundness::Sound => write!(f, "ok"),
             Soundness::Duplicate => write!(f, "duplicate"),
-            Soundness::Damaged(EntryCause::Deflate) => write!(f, "deflate"),
-            Soundness::Damaged(EntryCause::BadFormat { n }) => write!(f, "format {n}"),
-            Soundness::Damaged(EntryCause::TooLarge { size: _ }) => write!(f, "too large"),
-            Soundness::Damaged(EntryCause::SizeDiffers { a, b }) => write!(f, "sizes {a} {b}"),
-            Soundness::Damaged(EntryCause::BadChecksum { stated, found }) => {
-                let (stated, found) = (Checksum(*stated), Checksum(*found));
-                write!(f, "checksum {stated} {found}")
+            Soundness::Damaged(cause) => {
+                let damage = Damage(*cause);
+                write!(f, "{damage}")
             }
         }
     }

@@ -1,13 +1,13 @@
 //! The text of the command `record`.
 ghost use Rattle.std.specs.Prelude.{◌≡◌, ◌++◌, Some, OnOk, OnErr, codes, decimal};
 ghost use Rattle.std.specs.List.{count_by};
-ghost use Rattle.foz_text.specs.Fronts.{BeginsWith};
+ghost use Rattle.report_words.specs.Fronts.{BeginsWith};
 ghost use Rattle.foz_text.specs.RecordText.{is_new, is_known, is_refused, reply_words, record_line, record_text, summary};
 
 use crate::cause::CauseText;
-use crate::digits::Hash;
 use foz_words::NoMemory;
 use record_words::{Answered, LineAnswer, RecordReply};
+use report_words::Hash;
 use std::alloc::Global;
 use std::fmt;
 

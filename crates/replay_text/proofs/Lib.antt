@@ -1,4 +1,3 @@
 pub mod Ranges
 pub mod Rows
 pub mod Texts
-pub mod Fronts

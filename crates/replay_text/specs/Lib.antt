@@ -2,5 +2,4 @@ pub mod Words
 pub mod Lines
 pub mod Counted
 pub mod Overall
-pub mod Fronts
 pub mod Text

@@ -11,7 +11,8 @@ use Rattle.replay_core.specs.declared.event.Verdict.TheVariants.{Done, Blamed, M
 use Rattle.dep_graph.specs.declared.class.Class.{Class}
 use Rattle.dep_graph.specs.declared.class.Class.TheVariants.{Damaged, Duplicate, Kept, Unreadable, Item}
 use Rattle.dep_graph.specs.declared.graph.Graph.{Graph}
-use Rattle.replay_text.specs.Words.{damage_words, unreadable_words}
+use Rattle.report_words.specs.Words.{damage_words}
+use Rattle.replay_text.specs.Words.{unreadable_words}
 
 -- the key of the item with this number
 abbrev pub item_key : List Entry → Graph → ℕ → Option Key

@@ -2,7 +2,6 @@
 #![tactic(auto)]
 
 mod counts;
-mod digits;
 mod lines;
 mod overall;
 mod text;

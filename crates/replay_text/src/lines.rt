@@ -2,12 +2,12 @@
 ghost use Rattle.std.specs.Prelude.{◌≡◌, ◌++◌, Some, None, OnOk, OnErr, IfOk, string_bytes, codes, slice_get, option_map};
 ghost use Rattle.replay_text.specs.Lines.{item_key, dep_key, missing_key, missing_words, verdict_words, verdict_in, class_words, line_of, line_at};
 
-use crate::digits::Hash;
-use crate::words::{damage_words, unreadable_words};
+use crate::words::unreadable_words;
 use dep_graph::{Class, Graph};
 use foz_entry::Entry;
 use foz_words::{Key, NoMemory};
 use replay_core::{Dep, Verdict};
+use report_words::{Damage, Hash};
 use std::alloc::Global;
 
 /// The key of the item with this number.
@@ -106,7 +106,10 @@ fn class_words(
     ensures { IfOk result (λ words. string_bytes words ≡ class_words entries.now graph.now verdicts.now class.now) }
 {
     match class {
-        Class::Damaged(cause) => damage_words(alloc, *cause),
+        Class::Damaged(cause) => {
+            let damage = Damage(*cause);
+            Ok(format!(in alloc; "{damage}")?)
+        }
         Class::Duplicate { first: _ } => Ok(format!(in alloc; "duplicate")?),
         Class::Kept => Ok(format!(in alloc; "kept")?),
         Class::Unreadable(cause) => {

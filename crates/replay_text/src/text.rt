@@ -2,7 +2,7 @@
 ghost use Rattle.std.specs.Prelude.{◌≡◌, ◌++◌, OnOk, OnErr, IfOk};
 ghost use Rattle.replay_text.specs.Text.{replay_text};
 ghost use Rattle.replay_text.specs.Overall.{overall};
-ghost use Rattle.replay_text.specs.Fronts.{BeginsWith};
+ghost use Rattle.report_words.specs.Fronts.{BeginsWith};
 
 use crate::counts::{push_event_counts, push_verdict_counts};
 use crate::lines::push_line;

@@ -1,48 +1,12 @@
-//! The words of causes.
-ghost use Rattle.std.specs.Prelude.{◌≡◌, Some, string_bytes, IfOk};
-ghost use Rattle.replay_text.specs.Words.{damage_words, field_word, varint_words, unreadable_words};
+//! The words of why a payload can't be read.
+ghost use Rattle.std.specs.Prelude.{◌≡◌, string_bytes, IfOk};
+ghost use Rattle.replay_text.specs.Words.{varint_words, unreadable_words};
 
-use crate::digits::Checksum;
-use foz_entry::EntryCause;
 use foz_payload::Unreadable;
 use foz_words::NoMemory;
-use json_fold::FieldCause;
+use report_words::field_word;
 use spirv_varint::VarintError;
 use std::alloc::Global;
-
-/// Why an entry is damaged.
-pub(crate) fn damage_words(alloc: Global, cause: EntryCause) -> Result<String, NoMemory>
-    ensures { IfOk result (λ words. string_bytes words ≡ damage_words cause) }
-{
-    match cause {
-        EntryCause::Deflate => Ok(format!(in alloc; "deflate")?),
-        EntryCause::BadFormat { n } => Ok(format!(in alloc; "format {n}")?),
-        EntryCause::TooLarge { size: _ } => Ok(format!(in alloc; "too large")?),
-        EntryCause::SizeDiffers { a, b } => Ok(format!(in alloc; "sizes {a} {b}")?),
-        EntryCause::BadChecksum { stated, found } => {
-            let (stated, found) = (Checksum(stated), Checksum(found));
-            Ok(format!(in alloc; "checksum {stated} {found}")?)
-        }
-    }
-}
-
-/// Why a member can't be read.
-fn field_word(cause: FieldCause) -> &'static str
-    ensures { result.now ≡ field_word cause }
-{
-    match cause {
-        FieldCause::HasPNext => "pnext",
-        FieldCause::NotNumber => "number",
-        FieldCause::TooLarge => "large",
-        FieldCause::NotUnit => "unit",
-        FieldCause::NotText => "text",
-        FieldCause::NotList => "list",
-        FieldCause::NotObject => "object",
-        FieldCause::BadLength => "length",
-        FieldCause::BadHash => "hash",
-        FieldCause::BadBase64 => "base64",
-    }
-}
 
 /// Why varints can't be read.
 fn varint_words(alloc: Global, cause: &VarintError) -> Result<String, NoMemory>

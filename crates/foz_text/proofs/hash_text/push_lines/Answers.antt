@@ -1,5 +1,5 @@
-use Rattle.std.proofs.Common.{◌≡◌, arith}
-use Rattle.foz_text.proofs.Fronts.{all_front}
+use Rattle.std.proofs.Common.{arith}
+use Rattle.report_words.proofs.Fronts.{all_front}
 use Rattle.foz_text.proofs.HashLines.{hashed_none, all_hashed}
 use Rattle.foz_text.proofs.hash_text.push_lines.Goals as goal
 

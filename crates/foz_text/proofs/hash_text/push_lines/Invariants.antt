@@ -1,5 +1,5 @@
 use Rattle.std.proofs.Common.{◌+◌, ◌≤◌, length}
-use Rattle.foz_text.specs.Fronts.{BeginsWith}
+use Rattle.report_words.specs.Fronts.{BeginsWith}
 use Rattle.foz_text.proofs.HashLines.{IsHashedUpTo}
 use Rattle.foz_text.proofs.hash_text.push_lines.Given as goal
 

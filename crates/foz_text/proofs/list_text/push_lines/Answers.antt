@@ -6,7 +6,7 @@ use Rattle.foz_words.specs.declared.key.Key.{Key}
 use Rattle.foz_entry.specs.declared.cut.Entry.{Entry}
 use Rattle.foz_words.specs.contracts.key.KeyPartialEq.TheImpl as KeyPartialEq
 use Rattle.foz_text.specs.ListText.{holds, is_ok_word}
-use Rattle.foz_text.proofs.Fronts.{all_front, front_more, front_same}
+use Rattle.report_words.proofs.Fronts.{all_front, front_more, front_same}
 use Rattle.foz_text.proofs.Lines.{lines_more, all_lines, list_text_is, is_flawless_is}
 use Rattle.foz_text.proofs.list_text.push_lines.Goals as goal
 

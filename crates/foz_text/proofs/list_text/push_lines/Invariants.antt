@@ -1,6 +1,6 @@
 use Rattle.std.proofs.Common.{take}
 use Rattle.foz_words.specs.contracts.key.KeyPartialEq.TheImpl as KeyPartialEq
-use Rattle.foz_text.specs.Fronts.{BeginsWith}
+use Rattle.report_words.specs.Fronts.{BeginsWith}
 use Rattle.foz_text.specs.ListText.{AreKeysHeld}
 use Rattle.foz_text.proofs.Lines.{AreLinesTo}
 use Rattle.foz_text.proofs.list_text.push_lines.Given as goal

@@ -1,7 +1,5 @@
-use Rattle.std.proofs.Common.{◌≡◌, ◌∙◌, ◌+◌, ◌++◌, ◌∷◌, [], List, ℕ, take, refl, sym, ap, append_assoc}
-use Rattle.std.proofs.lemmas.List.{take_more, take_all}
+use Rattle.std.proofs.Common.{◌∙◌}
 use Rattle.std.proofs.lemmas.Result.{err_from_is_err_and}
-use Rattle.record_words.specs.declared.answered.Answered.{Answered}
 use Rattle.foz_text.proofs.RecordLines.{lines_more, lines_all}
 use Rattle.foz_text.proofs.record_text.push_lines.Goals as goal
 

@@ -3,7 +3,7 @@ use Rattle.std.proofs.lemmas.Result.{err_from_is_err_and}
 use Rattle.replay_text.specs.Lines.{line_at}
 use Rattle.replay_text.proofs.Ranges.{line_more}
 use Rattle.replay_text.proofs.Texts.{text_is}
-use Rattle.replay_text.proofs.Fronts.{front_more, front_same}
+use Rattle.report_words.proofs.Fronts.{front_more, front_same}
 use Rattle.replay_text.proofs.text.push_all.Goals as goal
 
 pub loop-index-preserved : goal.loop-index-preserved

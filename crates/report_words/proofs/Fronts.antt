@@ -1,7 +1,7 @@
 -- Texts that grow.
-use Rattle.std.proofs.Common.{◌≡◌, ℕ, List, [], ◌++◌, length, take, refl, sym, ap, ◌∙◌, append_assoc, append-nil}
+use Rattle.std.proofs.Common.{◌≡◌, ℕ, List, [], ◌++◌, length, take, sym, ap, ◌∙◌, append_assoc, append-nil}
 use Rattle.std.proofs.lemmas.List.{take_at}
-use Rattle.foz_text.specs.Fronts.{BeginsWith}
+use Rattle.report_words.specs.Fronts.{BeginsWith}
 
 pub all_front : (bytes : List ℕ) → BeginsWith bytes bytes
 all_front bytes = record { rest = []; is = sym (append-nil bytes) }

@@ -7,7 +7,7 @@ use std::fmt;
 
 /// A hash as its sixteen digits.
 #[derive(Clone, Copy)]
-pub(crate) struct Hash(pub u64);
+pub struct Hash(pub u64);
 
 impl fmt::Display for Hash {
     ghost output = { λ hash. Some (hex_text 16 hash.0) };
