@@ -3,8 +3,8 @@
 
     scripts/speed.py PROGRAM [MODULES [ROUNDS]]
 
-What is new is synced twice for 64 records, so its time is mostly that of the disk; what is known isn't written at all. The
-least time of the rounds counts, and the sync of this disk is measured first. It compares figures and judges none.
+What is new is synced twice for 64 records, which costs what the disk takes for it; what is known isn't written at all. The least
+time of the rounds counts, and the sync of this disk is measured first. It prints figures and judges none.
 """
 import importlib
 import os
