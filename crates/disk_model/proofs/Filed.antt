@@ -1,19 +1,14 @@
 -- How the places of a shelf in memory change.
-use Rattle.std.proofs.Common.{◌≡◌, ◌≢◌, ℕ, zero, suc, ◌+◌, ◌<◌, Bool, true, false, cond, List, [], ◌∷◌, length, get_or, ◌≤◌, Option, Some, None, IfSome, IfNone, refl, sym, ◌∙◌, ap, subst, arith}
-use Rattle.std.specs.Prelude.{◌||◌, ◌&&◌, not}
+use Rattle.std.proofs.Common.{◌≡◌, ◌≢◌, IfSome, IfNone, Bor, ℕ, zero, suc, ◌+◌, ◌<◌, Bool, true, false, cond, List, [], ◌∷◌, ◌++◌, length, get_or, set, ◌≤◌, Option, Some, None, refl, sym, ◌∙◌, ap, subst, arith}
+use Rattle.std.specs.Prelude.{◌||◌, not, is_some, option_copied}
 use mathlib.Core.Path.{fun_ext}
 use Rattle.std.specs.Str.{bytes_eq}
 use Rattle.std.specs.List.{list_any, position, position_or_len, remove}
 use Rattle.std.proofs.lemmas.Grind.{common_steps}
 use Rattle.std.proofs.lemmas.Slice.Eq.{bytes_eq-Decides}
-use Rattle.std.proofs.lemmas.List.Folds.{list_any_at}
 use Rattle.std.proofs.lemmas.List.Quantifiers.{position-Some}
 use Rattle.disk_model.specs.Place.{Place, missing, stored, out, with_place}
-use Rattle.disk_model.specs.Filed.{spells, is_among, are_apart, IsWithoutName, file_in, place_in}
-
-both : (a b : Bool) → (not a && b) ≡ true → (a ≡ false) × (b ≡ true)
-both true b e = absurd cc
-both false b e = (refl, e)
+use Rattle.disk_model.specs.Filed.{held, spells, file_in, place_in}
 
 neither : (a b : Bool) → (a || b) ≡ false → (a ≡ false) × (b ≡ false)
 neither true b e = absurd cc
@@ -35,18 +30,69 @@ module _ {X : Type 0} (p : X → Bool) where
   pub list_any-from_none : (xs : List X) → position p xs ≡ None → list_any p xs ≡ false
   list_any-from_none xs none = none_passes xs (past_all xs none)
 
+module _ {D : Type 0} where
+  -- an earlier name doesn't hide a later one that differs from it
+  past : (a b : Bool) (here there rest : Place D) → (b ≡ true → a ≡ false) → cond a here (cond b there rest) ≡ cond b there (cond a here rest)
+  past true true here there rest apart = absurd (let same : true ≡ false = apart refl in cc)
+  past true false here there rest apart = refl
+  past false b here there rest apart = refl
+
+  twice : (b : Bool) (new old rest : Place D) → cond b new rest ≡ cond b new (cond b old rest)
+  twice true new old rest = refl
+  twice false new old rest = refl
+
+  elsewhere : (b : Bool) (new before after : Place D) → (b ≡ false → after ≡ before) → cond b new after ≡ cond b new before
+  elsewhere true new before after same = refl
+  elsewhere false new before after same = same refl
+
+  held_there : (slot : Option D) → held slot ≢ missing
+  held_there None e = cc
+  held_there (Some disk) e = cc
+
+  missed : (b among : Bool) (slot : Option D) (place : Place D) → (place ≡ missing → among ≡ false) → cond b (held slot) place ≡ missing → (b || among) ≡ false
+  missed true among slot place rest e = absurd (held_there slot e)
+  missed false among slot place rest e = rest e
+
+  chosen_out : (b : Bool) (disk : D) (place : Place D) → (place ≡ out → ⊥) → cond b (stored disk) place ≡ out → ⊥
+  chosen_out true disk place rest e = cc
+  chosen_out false disk place rest e = rest e
+
+  -- what a slot lends or gives is what stands there
+  pub lent_some : (place : Place D) (slot : Option D) (lent : Option (Bor D)) → option_copied lent ≡ slot → place ≡ held slot → IfSome lent (λ file. place ≡ stored file.now)
+  lent_some place slot None e is = tt
+  lent_some place slot (Some file) e is = is ∙ ap held (sym e)
+
+  pub lent_none : (place : Place D) (slot : Option D) (lent : Option (Bor D)) → option_copied lent ≡ slot → place ≡ held slot → IfNone lent ((file : D) → place ≢ stored file)
+  lent_none place slot None e is = λ file same. let is_out : place ≡ out = is ∙ ap held (sym e) in cc
+  lent_none place slot (Some file) e is = tt
+
+  pub taken_some : (place : Place D) (slot taken : Option D) → taken ≡ slot → place ≡ held slot → IfSome taken (λ file. place ≡ stored file)
+  taken_some place slot None e is = tt
+  taken_some place slot (Some file) e is = is ∙ ap held (sym e)
+
+  pub taken_none : (P : Type 0) (place : Place D) (slot taken : Option D) → taken ≡ slot → place ≡ held slot → place ≢ out → IfNone taken P
+  taken_none P place slot None e is here = absurd (here (is ∙ ap held (sym e)))
+  taken_none P place slot (Some file) e is here = tt
+
+  pub stored_not_missing : (place : Place D) (file : D) → place ≡ stored file → place ≢ missing
+  stored_not_missing place file is e = cc
+
+  pub missing_not_stored : (place : Place D) → place ≡ missing → (file : D) → place ≢ stored file
+  missing_not_stored place is file e = cc
+
 module _ {S : Type 0} (bytes : S → List ℕ) where
   -- a text spells one name alone
   spells_other : (text : S) (name other : List ℕ) → spells bytes name text ≡ true → bytes_eq name other ≡ false → spells bytes other text ≡ false
   spells_other text name other is apart = subst (λ (n : List ℕ). bytes_eq n other ≡ false) (sym ((bytes_eq-Decides (bytes text) name).0 is)) apart
 
-  pub spelled_at : (names : List S) (name : List ℕ) (i : ℕ) (d : S) → position (spells bytes name) names ≡ Some i → bytes (get_or names i d) ≡ name
-  spelled_at names name i d found = (bytes_eq-Decides (bytes (get_or names i d)) name).0 (position-Some (spells bytes name) names i d found).1
+  -- and what doesn't spell a name spells none that equals it
+  spells_neither : (text : S) (name other : List ℕ) → spells bytes name text ≡ false → bytes_eq name other ≡ true → spells bytes other text ≡ false
+  spells_neither text name other not same = subst (λ (n : List ℕ). spells bytes n text ≡ false) ((bytes_eq-Decides name other).0 same) not
+
+  pub spelled : {X : Type 0} (named : List (S × X)) (name : List ℕ) (i : ℕ) (d : S × X) → position (λ (one : S × X). spells bytes name one.0) named ≡ Some i → bytes (get_or named i d).0 ≡ name
+  spelled {X} named name i d found = (bytes_eq-Decides (bytes (get_or named i d).0) name).0 (position-Some (λ (one : S × X). spells bytes name one.0) named i d found).1
 
   module _ {D : Type 0} where
-    pub file_spelled : (files : List (S × D)) (name : List ℕ) (i : ℕ) (d : S × D) → position (λ (file : S × D). spells bytes name file.0) files ≡ Some i → bytes (get_or files i d).0 ≡ name
-    file_spelled files name i d found = (bytes_eq-Decides (bytes (get_or files i d).0) name).0 (position-Some (λ (file : S × D). spells bytes name file.0) files i d found).1
-
     no_such_file : (files : List (S × D)) (name : List ℕ) → list_any (λ (file : S × D). spells bytes name file.0) files ≡ false → file_in bytes files name ≡ missing
     no_such_file [] name none = refl
     no_such_file (file ∷ files) name none = let fails = neither (spells bytes name file.0) (list_any (λ (f : S × D). spells bytes name f.0) files) none in rw (fails.0) (no_such_file files name fails.1)
@@ -76,10 +122,6 @@ module _ {S : Type 0} (bytes : S → List ℕ) where
     without_file files name i d found other apart =
         let first = position-Some _ files i d found in other_files files other i d first.0 (spells_other (get_or files i d).0 name other first.1 apart)
 
-    chosen_out : (b : Bool) (disk : D) (place : Place D) → (place ≡ out → ⊥) → cond b (stored disk) place ≡ out → ⊥
-    chosen_out true disk place rest e = cc
-    chosen_out false disk place rest e = rest e
-
     file_not_out : (files : List (S × D)) (name : List ℕ) → file_in bytes files name ≡ out → ⊥
     file_not_out [] name e = cc
     file_not_out (file ∷ files) name e = chosen_out (bytes_eq (bytes file.0) name) file.1 (file_in bytes files name) (file_not_out files name) e
@@ -87,94 +129,89 @@ module _ {S : Type 0} (bytes : S → List ℕ) where
     pub nothing_out : (files : List (S × D)) (name : List ℕ) → file_in bytes files name ≢ out
     nothing_out files name = file_not_out files name
 
-    pub out_among : (files : List (S × D)) (names : List S) (name : List ℕ) → place_in bytes files names name ≡ out → is_among bytes names name ≡ false → ⊥
-    out_among files names name is none = file_not_out files name (rw none at is)
+    past_slots : (slots : List (S × Option D)) (given : List (S × D)) (name : List ℕ) → list_any (λ (slot : S × Option D). spells bytes name slot.0) slots ≡ false
+        → place_in bytes slots given name ≡ file_in bytes given name
+    past_slots [] given name none = refl
+    past_slots (slot ∷ slots) given name none =
+        let fails = neither (spells bytes name slot.0) (list_any (λ (s : S × Option D). spells bytes name s.0) slots) none in rw (fails.0) (past_slots slots given name fails.1)
 
-    not_out : (among : Bool) (place : Place D) → cond among out place ≢ out → among ≡ false
-    not_out true place here = absurd (here refl)
-    not_out false place here = refl
+    pub no_slot : (slots : List (S × Option D)) (given : List (S × D)) (name : List ℕ) → position (λ (slot : S × Option D). spells bytes name slot.0) slots ≡ None
+        → place_in bytes slots given name ≡ file_in bytes given name
+    no_slot slots given name none = past_slots slots given name (list_any-from_none _ slots none)
 
-    pub here_not_among : (files : List (S × D)) (names : List S) (name : List ℕ) → place_in bytes files names name ≢ out → is_among bytes names name ≡ false
-    here_not_among files names name here = not_out (is_among bytes names name) (file_in bytes files name) here
+    first_slot : (slots : List (S × Option D)) (given : List (S × D)) (name : List ℕ) (i : ℕ) (d : S × Option D) → i < length slots → spells bytes name (get_or slots i d).0 ≡ true
+        → ((k : ℕ) → k < i → spells bytes name (get_or slots k d).0 ≡ false) → place_in bytes slots given name ≡ held (get_or slots i d).1
+    first_slot [] given name i d within is before = absurd (omega arith)
+    first_slot (slot ∷ slots) given name zero d within is before = rw is refl
+    first_slot (slot ∷ slots) given name (suc i) d within is before =
+        rw (before 0 (omega arith)) (first_slot slots given name i d (omega arith) is (λ k less. before (suc k) (omega arith)))
 
-    pub place_here : (files : List (S × D)) (names : List S) (name : List ℕ) → is_among bytes names name ≡ false → place_in bytes files names name ≡ file_in bytes files name
-    place_here files names name here = rw here refl
+    pub found_slot : (slots : List (S × Option D)) (given : List (S × D)) (name : List ℕ) (i : ℕ) (d : S × Option D) → position (λ (slot : S × Option D). spells bytes name slot.0) slots ≡ Some i
+        → place_in bytes slots given name ≡ held (get_or slots i d).1
+    found_slot slots given name i d found = let first = position-Some _ slots i d found in first_slot slots given name i d first.0 first.1 first.2
 
-    found_not_missing : (among : Bool) (place : Place D) (disk : D) → place ≡ stored disk → cond among out place ≡ missing → ⊥
-    found_not_missing true place disk is e = cc
-    found_not_missing false place disk is e = cc
+    pub missing_no_slot : (slots : List (S × Option D)) (given : List (S × D)) (name : List ℕ) → place_in bytes slots given name ≡ missing → list_any (λ (slot : S × Option D). spells bytes name slot.0) slots ≡ false
+    missing_no_slot [] given name is = refl
+    missing_no_slot (slot ∷ slots) given name is = missed (spells bytes name slot.0) _ slot.1 (place_in bytes slots given name) (missing_no_slot slots given name) is
 
-    pub found_place : (files : List (S × D)) (names : List S) (name : List ℕ) (found : Option ℕ) → found ≡ position (λ (file : S × D). spells bytes name file.0) files
-        → IfSome found (λ at. place_in bytes files names name ≢ missing)
-    found_place files names name None is = tt
-    found_place [] names name (Some i) is = cc
-    found_place (file ∷ files) names name (Some i) is = λ e.
-        found_not_missing (is_among bytes names name) _ (get_or (file ∷ files) i file).1 (found_file (file ∷ files) name i file (sym is)) e
+    -- a name has a file just where it has a slot or a file that was given
+    pub has_slot : (slots : List (S × Option D)) (given : List (S × D)) (name : List ℕ) (found : Option ℕ) (has : Bool) → has ≡ is_some found → has ≡ true
+        → found ≡ position (λ (slot : S × Option D). spells bytes name slot.0) slots
+        → (has ≡ false → place_in bytes slots given name ≡ missing) × (place_in bytes slots given name ≡ missing → has ≡ false)
+    has_slot slots given name None has is is_true at = absurd cc
+    has_slot [] given name (Some i) has is is_true at = absurd cc
+    has_slot (slot ∷ slots) given name (Some i) has is is_true at = (
+      (λ not. absurd cc),
+      (λ e. absurd (held_there (get_or (slot ∷ slots) i slot).1 (sym (found_slot (slot ∷ slots) given name i slot (sym at)) ∙ e))),
+    )
 
-    pub missing_place : (files : List (S × D)) (names : List S) (name : List ℕ) (found : Option ℕ) → found ≡ position (λ (file : S × D). spells bytes name file.0) files
-        → IfNone found (place_in bytes files names name ≢ out → place_in bytes files names name ≡ missing)
-    missing_place files names name None is = λ here. place_here files names name (here_not_among files names name here) ∙ no_file files name (sym is)
-    missing_place files names name (Some i) is = tt
+    pub has_file : (slots : List (S × Option D)) (given : List (S × D)) (name : List ℕ) (in_slots found : Option ℕ) (slotted has : Bool) → slotted ≡ is_some in_slots → slotted ≡ false
+        → in_slots ≡ position (λ (slot : S × Option D). spells bytes name slot.0) slots → has ≡ is_some found → found ≡ position (λ (file : S × D). spells bytes name file.0) given
+        → (has ≡ false → place_in bytes slots given name ≡ missing) × (place_in bytes slots given name ≡ missing → has ≡ false)
+    has_file slots given name (Some i) found slotted has is is_false in_slots has_is at = absurd cc
+    has_file slots given name None None slotted has is is_false in_slots has_is at = ((λ _. no_slot slots given name (sym in_slots) ∙ no_file given name (sym at)), (λ _. has_is))
+    has_file slots [] name None (Some i) slotted has is is_false in_slots has_is at = absurd cc
+    has_file slots (file ∷ given) name None (Some i) slotted has is is_false in_slots has_is at = (
+      (λ none. absurd cc),
+      (λ e. absurd (stored_not_missing _ _ (no_slot slots (file ∷ given) name (sym in_slots) ∙ found_file (file ∷ given) name i file (sym at)) e)),
+    )
 
-    lent : (b among : Bool) (place after : Place D) → (b ≡ false → after ≡ place) → cond (b || among) out after ≡ cond b out (cond among out place)
-    lent true among place after same = refl
-    lent false among place after same = ap (λ (p : Place D). cond among out p) (same refl)
+    set_first : (slots : List (S × Option D)) (given : List (S × D)) (name other : List ℕ) (i : ℕ) (d : S × Option D) (new : Option D) → i < length slots → spells bytes name (get_or slots i d).0 ≡ true
+        → ((k : ℕ) → k < i → spells bytes name (get_or slots k d).0 ≡ false)
+        → place_in bytes (set slots i ((get_or slots i d).0, new)) given other ≡ cond (bytes_eq name other) (held new) (place_in bytes slots given other)
+    set_first [] given name other i d new within is before = absurd (omega arith)
+    set_first (slot ∷ slots) given name other zero d new within is before =
+        rw ((bytes_eq-Decides (bytes slot.0) name).0 is) (twice (bytes_eq name other) (held new) (held slot.1) (place_in bytes slots given other))
+    set_first (slot ∷ slots) given name other (suc i) d new within is before =
+        ap (λ (place : Place D). cond (bytes_eq (bytes slot.0) other) (held slot.1) place) (set_first slots given name other i d new (omega arith) is (λ k less. before (suc k) (omega arith)))
+        ∙ past (bytes_eq (bytes slot.0) other) (bytes_eq name other) (held slot.1) (held new) (place_in bytes slots given other) (spells_neither slot.0 name other (before 0 (omega arith)))
 
-    -- a name more is out
-    pub now_out : (files after : List (S × D)) (names new : List S) (name : List ℕ) (text : S) → new ≡ text ∷ names → bytes text ≡ name
-        → ((other : List ℕ) → bytes_eq name other ≡ false → file_in bytes after other ≡ file_in bytes files other) → place_in bytes after new ≡ with_place (place_in bytes files names) name out
-    now_out files after names new name text is spelled others = fun_ext (λ other.
-        rw (is, spelled) (lent (bytes_eq name other) (is_among bytes names other) (file_in bytes files other) (file_in bytes after other) (others other)))
+    -- a slot holds another file, or none
+    pub slot_set : (slots : List (S × Option D)) (given : List (S × D)) (name : List ℕ) (i : ℕ) (d : S × Option D) (new : Option D) → position (λ (slot : S × Option D). spells bytes name slot.0) slots ≡ Some i
+        → place_in bytes (set slots i ((get_or slots i d).0, new)) given ≡ with_place (place_in bytes slots given) name (held new)
+    slot_set slots given name i d new found = let first = position-Some _ slots i d found in fun_ext (λ other. set_first slots given name other i d new first.0 first.1 first.2)
 
-    put : (b among left : Bool) (at place : Place D) → (b ≡ true → left ≡ false) → (b ≡ false → left ≡ among) → cond left out (cond b at place) ≡ cond b at (cond among out place)
-    put true among left at place gone others = rw (gone refl) refl
-    put false among left at place gone others = rw (others refl) refl
+    pub slot_out : (slots : List (S × Option D)) (given : List (S × D)) (name : List ℕ) (i : ℕ) (d : S × Option D) (taken new : Option D) → new ≡ None
+        → position (λ (slot : S × Option D). spells bytes name slot.0) slots ≡ Some i → d ≡ get_or slots i d
+        → IfSome taken (λ file. place_in bytes (set slots i (d.0, new)) given ≡ with_place (place_in bytes slots given) name out)
+    slot_out slots given name i d None new empty found is = tt
+    slot_out slots given name i d (Some file) new empty found is =
+        ap (λ (slot : S × Option D). place_in bytes (set slots i (slot.0, new)) given) is
+        ∙ ap (λ (h : Option D). place_in bytes (set slots i ((get_or slots i d).0, h)) given) empty
+        ∙ slot_set slots given name i d None found
 
-    -- a file is back
-    pub now_back : (files after : List (S × D)) (names left : List S) (name : List ℕ) (text : S) (disk : D) → IsWithoutName bytes name names left → bytes text ≡ name → after ≡ (text, disk) ∷ files
-        → place_in bytes after left ≡ with_place (place_in bytes files names) name (stored disk)
-    now_back files after names left name text disk without spelled is = fun_ext (λ other.
-        rw (is, spelled) (put (bytes_eq name other) (is_among bytes names other) (is_among bytes left other) (stored disk) (file_in bytes files other)
-        (λ same. subst (λ (n : List ℕ). is_among bytes left n ≡ false) ((bytes_eq-Decides name other).0 same) without.gone) (without.others other)))
+    pushed : (slots : List (S × Option D)) (given after : List (S × D)) (name other : List ℕ) (text : S) → bytes text ≡ name → list_any (λ (slot : S × Option D). spells bytes name slot.0) slots ≡ false
+        → (bytes_eq name other ≡ false → file_in bytes after other ≡ file_in bytes given other)
+        → place_in bytes (slots ++ (text, None) ∷ []) after other ≡ cond (bytes_eq name other) out (place_in bytes slots given other)
+    pushed [] given after name other text is none same = rw is (elsewhere (bytes_eq name other) out (file_in bytes given other) (file_in bytes after other) same)
+    pushed (slot ∷ slots) given after name other text is none same =
+        let fails = neither (spells bytes name slot.0) (list_any (λ (s : S × Option D). spells bytes name s.0) slots) none in
+        ap (λ (place : Place D). cond (bytes_eq (bytes slot.0) other) (held slot.1) place) (pushed slots given after name other text is fails.1 same)
+        ∙ past (bytes_eq (bytes slot.0) other) (bytes_eq name other) (held slot.1) out (place_in bytes slots given other) (spells_neither slot.0 name other fails.0)
 
-  fewer_among : (names : List S) (name : List ℕ) (i : ℕ) → is_among bytes names name ≡ false → is_among bytes (remove names i) name ≡ false
-  fewer_among [] name zero none = refl
-  fewer_among [] name (suc i) none = refl
-  fewer_among (text ∷ names) name zero none = (neither (spells bytes name text) (is_among bytes names name) none).1
-  fewer_among (text ∷ names) name (suc i) none = let fails = neither (spells bytes name text) (is_among bytes names name) none in rw (fails.0) (fewer_among names name i fails.1)
-
-  fewer_apart : (names : List S) (i : ℕ) → are_apart bytes names ≡ true → are_apart bytes (remove names i) ≡ true
-  fewer_apart [] zero apart = refl
-  fewer_apart [] (suc i) apart = refl
-  fewer_apart (text ∷ names) zero apart = (both (is_among bytes names (bytes text)) (are_apart bytes names) apart).1
-  fewer_apart (text ∷ names) (suc i) apart = let parts = both (is_among bytes names (bytes text)) (are_apart bytes names) apart in rw (fewer_among names (bytes text) i parts.0) (fewer_apart names i parts.1)
-
-  others_among : (names : List S) (other : List ℕ) (i : ℕ) (d : S) → i < length names → spells bytes other (get_or names i d) ≡ false → is_among bytes (remove names i) other ≡ is_among bytes names other
-  others_among [] other i d within apart = absurd (omega arith)
-  others_among (text ∷ names) other zero d within apart = rw apart refl
-  others_among (text ∷ names) other (suc i) d within apart = ap (λ (b : Bool). spells bytes other text || b) (others_among names other i d (omega arith) apart)
-
-  not_before : (names : List S) (text : S) (name : List ℕ) (b : Bool) → spells bytes name text ≡ b → is_among bytes names (bytes text) ≡ false → is_among bytes names name ≡ true → b ≡ false
-  not_before names text name true is apart among =
-      let same : is_among bytes names name ≡ false = subst (λ (n : List ℕ). is_among bytes names n ≡ false) ((bytes_eq-Decides (bytes text) name).0 is) apart in
-      absurd cc
-  not_before names text name false is apart among = refl
-
-  gone_among : (names : List S) (name : List ℕ) (i : ℕ) (d : S) → are_apart bytes names ≡ true → i < length names → spells bytes name (get_or names i d) ≡ true → is_among bytes (remove names i) name ≡ false
-  gone_among [] name i d apart within is = absurd (omega arith)
-  gone_among (text ∷ names) name zero d apart within is = subst (λ (n : List ℕ). is_among bytes names n ≡ false) ((bytes_eq-Decides (bytes text) name).0 is) (both (is_among bytes names (bytes text)) (are_apart bytes names) apart).0
-  gone_among (text ∷ names) name (suc i) d apart within is =
-      let parts = both (is_among bytes names (bytes text)) (are_apart bytes names) apart in
-      let below : i < length names = omega arith in
-      rw (not_before names text name _ refl parts.0 (list_any_at (spells bytes name) names i d below is)) (gone_among names name i d parts.1 below is)
-
-  -- a name less is out
-  pub without_name : (names new : List S) (name : List ℕ) (i : ℕ) (d : S) → are_apart bytes names ≡ true → position (spells bytes name) names ≡ Some i → new ≡ remove names i → length new + 1 ≡ length names → IsWithoutName bytes name names new
-  without_name names new name i d apart found is fewer =
-      let first = position-Some (spells bytes name) names i d found in
-      record {
-        gone = rw is (gone_among names name i d apart first.0 first.1);
-        others = λ other differs. rw is (others_among names other i d first.0 (spells_other (get_or names i d) name other first.1 differs));
-        apart = rw is (fewer_apart names i apart);
-        fewer = fewer;
-      }
+    -- a name has a slot now, and its file is out
+    pub slot_pushed : (slots new : List (S × Option D)) (given after : List (S × D)) (name : List ℕ) (text : S) → new ≡ slots ++ (text, None) ∷ [] → bytes text ≡ name
+        → list_any (λ (slot : S × Option D). spells bytes name slot.0) slots ≡ false
+        → ((other : List ℕ) → bytes_eq name other ≡ false → file_in bytes after other ≡ file_in bytes given other)
+        → place_in bytes new after ≡ with_place (place_in bytes slots given) name out
+    slot_pushed slots new given after name text grown is none same = fun_ext (λ other. rw grown (pushed slots given after name other text is none (same other)))

@@ -62,7 +62,7 @@ after_sync disk = fresh disk.now
 abbrev pub MayBeMade : DiskState → DiskState → DiskState → Type 0
 MayBeMade old made new = (new ≡ old) ⊎ (new ≡ made) ⊎ (new ≡ record made { now = old.now })
 
--- The states of a disk at each moment so far. A moment is the number of calls before it.
+-- The states of a disk at each moment so far. The moment goes on by at most one with each call.
 pub record History : Type 0 where
   pub moment : ℕ
   pub at : ℕ → DiskState
@@ -111,10 +111,13 @@ pub record Syncs {T E : Type 0} (old new : History) (result : Result T E) : Type
   pub ok : OnOk result (latest new ≡ after_sync (latest old))
   pub err : OnErr result (latest new ≡ latest old)
 
--- A run of at most so many calls, in which a crash at each moment leaves what has P.
-pub record LeavesOnly (old new : History) (most : ℕ) (P : List ℕ → Type 0) : Type 0 where
+-- at most so many calls
+abbrev pub AtMostCalls : ℕ → History → History → Type 0
+AtMostCalls most old new = new.moment ≤ old.moment + most
+
+-- A run of calls, in which a crash at each moment leaves what has P.
+pub record LeavesOnly (old new : History) (P : List ℕ → Type 0) : Type 0 where
   pub goes_on : GoesOn old new
-  pub calls : new.moment ≤ old.moment + most
   pub each : (bytes : List ℕ) → MightHaveLeft new old.moment bytes → P bytes
 
 -- A write of n bytes that a crash cut short: any bytes in the range and past the old end, the same elsewhere.

@@ -1,6 +1,7 @@
 pub mod Disk
 pub mod Faults
 pub mod Filed
-pub mod Listed
+pub mod Latest
 pub mod Memory
 pub mod Place
+pub mod Plans

@@ -1,41 +1,16 @@
 // The calls of an object in memory, some of which are to fail.
-ghost use Rattle.std.specs.Prelude.{◌≡◌, ◌≤◌, IsTrue, ◌↔◌, List, ℕ};
+ghost use Rattle.std.specs.Prelude.{◌≡◌, ◌≤◌, IsTrue, ◌↔◌};
 ghost use Rattle.disk_model.specs.Faults.{Rose};
-ghost use Rattle.disk_model.specs.Listed.{IsListed, next_number};
+ghost use Rattle.disk_model.specs.Plans.{IsListed, next_number};
 
 use crate::Failed;
 
-/// An object in memory that counts its calls from 0 on, and of which those with some numbers fail.
-pub trait Listed {
-    /// The number of the next call.
-    ghost next: { Self → ℕ };
+/// An object in memory that fails where it was told to, and nowhere else.
+pub trait Planned {
+    ghost Plan: { Type 0 };
 
-    /// The numbers of the calls that fail.
-    ghost failing: { Self → List ℕ };
-}
-
-/// An object in memory that takes bytes up to a bound.
-pub trait Bounded {
-    /// How many bytes it takes in all.
-    ghost room: { Self → ℕ };
-}
-
-/// An object in memory whose room fills up.
-pub trait Filled {
-    /// How many bytes of the room are taken. What it was made with counts too.
-    ghost used: { Self → ℕ };
-}
-
-/// An object in memory that moves at most some bytes in a call.
-pub trait Stepped {
-    /// The most bytes of one call.
-    ghost step: { Self → ℕ };
-}
-
-/// An object in memory that bears some calls, and fails at each later one.
-pub trait Limited {
-    /// How many calls it bears.
-    ghost limit: { Self → ℕ };
+    /// What it was made with, and how far it has come.
+    ghost plan: { Self → Plan };
 }
 
 #[derive(Drop)]

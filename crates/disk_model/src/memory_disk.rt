@@ -3,11 +3,12 @@
 ghost use Rattle.std.specs.Prelude.{◌≡◌, ◌⊎◌, ◌+◌, ◌<◌, ◌≤◌, [], ◌∷◌, ◌++◌, length, min, max, ℕ, take, slice_index, slice_range, vec_len, vec_capacity, false, IfOk, OnOk, OnErr, IsErr, IsTrue, ◌↔◌};
 ghost use Rattle.disk_model.specs.Disk.{InRange, InSome, IsImage, NothingPending, Rests, Changes, Syncs, fresh, overwritten, after_write, after_cut, latest};
 ghost use Rattle.disk_model.specs.Faults.{Rose, HasCause};
-ghost use Rattle.disk_model.specs.Listed.{next_number};
-ghost use Rattle.disk_model.specs.Memory.{FailsAt, after_calls, bytes_written, history_of, state_of};
+ghost use Rattle.disk_model.specs.Plans.{DiskPlan, FailsNext, unused, counted, filled};
+ghost use Rattle.disk_model.specs.Memory.{after_calls, bytes_written, history_of, state_of};
 
 use crate::call::Call;
-use crate::call_count::{Bounded, Filled, Limited, Listed};
+use crate::call_count::Planned;
+use crate::lists::{copy_within, extend_within, overwrite, push_within, set_len_within};
 use crate::{Disk, Failed};
 use std::alloc::{AllocError, Global};
 
@@ -59,11 +60,7 @@ impl MemDisk {
         ensures settled { IfOk result (λ disk. NothingPending (latest (⟦<MemDisk as Disk>⟧.history disk))) }
         ensures moment { IfOk result (λ disk. (⟦<MemDisk as Disk>⟧.history disk).moment ≡ 0) }
         ensures faults { IfOk result (λ disk. ⟦<MemDisk as Disk>⟧.faults disk ≡ 0) }
-        ensures room { IfOk result (λ disk. ⟦<MemDisk as Bounded>⟧.room disk ≡ room) }
-        ensures used { IfOk result (λ disk. ⟦<MemDisk as Filled>⟧.used disk ≡ length bytes.items) }
-        ensures limit { IfOk result (λ disk. ⟦<MemDisk as Limited>⟧.limit disk ≡ calls) }
-        ensures next { IfOk result (λ disk. ⟦<MemDisk as Listed>⟧.next disk ≡ 0) }
-        ensures listed { IfOk result (λ disk. ⟦<MemDisk as Listed>⟧.failing disk ≡ failing.items) }
+        ensures plan { IfOk result (λ disk. ⟦<MemDisk as Planned>⟧.plan disk ≡ record { room = room; used = length bytes.items; calls = calls; next = 0; failing = failing.items }) }
     {
         let len = bytes.len();
         let size = len.max(room as usize);
@@ -102,11 +99,7 @@ impl MemDisk {
         ensures settled { NothingPending (latest (⟦<MemDisk as Disk>⟧.history result)) }
         ensures moment { (⟦<MemDisk as Disk>⟧.history result).moment ≡ 0 }
         ensures faults { ⟦<MemDisk as Disk>⟧.faults result ≡ 0 }
-        ensures room { ⟦<MemDisk as Bounded>⟧.room result ≡ ⟦<MemDisk as Bounded>⟧.room self }
-        ensures used { ⟦<MemDisk as Filled>⟧.used result ≡ length (⟦<MemDisk as Disk>⟧.content result) }
-        ensures limit { ⟦<MemDisk as Limited>⟧.limit result ≡ ⟦<MemDisk as Limited>⟧.limit self }
-        ensures next { ⟦<MemDisk as Listed>⟧.next result ≡ 0 }
-        ensures listed { ⟦<MemDisk as Listed>⟧.failing result ≡ [] }
+        ensures plan { let plan = ⟦<MemDisk as Planned>⟧.plan self in ⟦<MemDisk as Planned>⟧.plan result ≡ unused plan.room (length (⟦<MemDisk as Disk>⟧.content result)) plan.calls }
     {
         let MemDisk {
             mut first,
@@ -168,7 +161,7 @@ impl MemDisk {
     // The next call is to fail.
     fn fails_now(&self) -> bool
         ensures within { result ≡ false → self.now.made < self.now.limit }
-        ensures exact { IsTrue result ↔ FailsAt self.now.made self.now.limit self.now.failing.items }
+        ensures exact { IsTrue result ↔ FailsNext (⟦<MemDisk as Planned>⟧.plan self.now) }
     {
         self.made >= self.limit || self.failing.contains(&self.made)
     }
@@ -187,11 +180,7 @@ impl MemDisk {
         ensures history { Rests (history_of self.old.first.items self.old.calls.items self.old.pieces.items self.old.made)
             (history_of self.new.first.items self.new.calls.items self.new.pieces.items self.new.made) }
         ensures faults { self.new.faults ≡ self.old.faults }
-        ensures made { self.new.made ≡ next_number self.old.made }
-        ensures listed { self.new.failing ≡ self.old.failing }
-        ensures limit { self.new.limit ≡ self.old.limit }
-        ensures room { self.new.room ≡ self.old.room }
-        ensures used { length self.new.first.items + length self.new.pieces.items ≡ length self.old.first.items + length self.old.pieces.items }
+        ensures plan { ⟦<MemDisk as Planned>⟧.plan self.new ≡ counted (⟦<MemDisk as Planned>⟧.plan self.old) }
     {
         if self.made >= self.limit {
             self.made = self.made.saturating_add(1);
@@ -207,11 +196,7 @@ impl MemDisk {
         ensures history { Rests (history_of self.old.first.items self.old.calls.items self.old.pieces.items self.old.made)
             (history_of self.new.first.items self.new.calls.items self.new.pieces.items self.new.made) }
         ensures faults { (self.old.faults ≤ self.new.faults) × Rose self.old.faults self.new.faults }
-        ensures made { self.new.made ≡ next_number self.old.made }
-        ensures listed { self.new.failing ≡ self.old.failing }
-        ensures limit { self.new.limit ≡ self.old.limit }
-        ensures room { self.new.room ≡ self.old.room }
-        ensures used { length self.new.first.items + length self.new.pieces.items ≡ length self.old.first.items + length self.old.pieces.items }
+        ensures plan { ⟦<MemDisk as Planned>⟧.plan self.new ≡ counted (⟦<MemDisk as Planned>⟧.plan self.old) }
     {
         self.rest();
         self.faults = self.faults.saturating_add(1);
@@ -219,26 +204,14 @@ impl MemDisk {
     }
 }
 
-impl Bounded for MemDisk {
-    ghost room = { λ disk. disk.room };
-}
+impl Planned for MemDisk {
+    ghost Plan = { DiskPlan };
 
-impl Filled for MemDisk {
-    ghost used = { λ disk. length disk.first.items + length disk.pieces.items };
-}
-
-impl Limited for MemDisk {
-    ghost limit = { λ disk. disk.limit };
-}
-
-impl Listed for MemDisk {
-    ghost next = { λ disk. disk.made };
-
-    ghost failing = { λ disk. disk.failing.items };
+    ghost plan = { λ disk. record { room = disk.room; used = length disk.first.items + length disk.pieces.items; calls = disk.limit; next = disk.made; failing = disk.failing.items } };
 }
 
 impl Disk for MemDisk {
-    ghost use Rattle.disk_model.specs.Memory.{now_is_latest, image_is_latest};
+    ghost use Rattle.disk_model.specs.Latest.{now_is_latest, image_is_latest};
 
     ghost tells_content = { Unit {0} };
 
@@ -255,12 +228,8 @@ impl Disk for MemDisk {
         ensures content { ⟦<MemDisk as Disk>⟧.content self.new ≡ ⟦<MemDisk as Disk>⟧.content self.old }
         ensures images { Rests (⟦<MemDisk as Disk>⟧.history self.old) (⟦<MemDisk as Disk>⟧.history self.new) }
         ensures cause { HasCause (⟦<MemDisk as Disk>⟧.faults self.old) (⟦<MemDisk as Disk>⟧.faults self.new) result }
-        ensures exact { IsErr result ↔ FailsAt (⟦<MemDisk as Listed>⟧.next self.old) (⟦<MemDisk as Limited>⟧.limit self.old) (⟦<MemDisk as Listed>⟧.failing self.old) }
-        ensures counted { ⟦<MemDisk as Listed>⟧.next self.new ≡ next_number (⟦<MemDisk as Listed>⟧.next self.old) }
-        ensures listed { ⟦<MemDisk as Listed>⟧.failing self.new ≡ ⟦<MemDisk as Listed>⟧.failing self.old }
-        ensures limit { ⟦<MemDisk as Limited>⟧.limit self.new ≡ ⟦<MemDisk as Limited>⟧.limit self.old }
-        ensures room { ⟦<MemDisk as Bounded>⟧.room self.new ≡ ⟦<MemDisk as Bounded>⟧.room self.old }
-        ensures used { ⟦<MemDisk as Filled>⟧.used self.new ≡ ⟦<MemDisk as Filled>⟧.used self.old }
+        ensures exact { IsErr result ↔ FailsNext (⟦<MemDisk as Planned>⟧.plan self.old) }
+        ensures plan { ⟦<MemDisk as Planned>⟧.plan self.new ≡ counted (⟦<MemDisk as Planned>⟧.plan self.old) }
     {
         if self.fails_now() {
             return Err(self.fail());
@@ -275,12 +244,8 @@ impl Disk for MemDisk {
         ensures content { ⟦<MemDisk as Disk>⟧.content self.new ≡ ⟦<MemDisk as Disk>⟧.content self.old }
         ensures images { Rests (⟦<MemDisk as Disk>⟧.history self.old) (⟦<MemDisk as Disk>⟧.history self.new) }
         ensures cause { HasCause (⟦<MemDisk as Disk>⟧.faults self.old) (⟦<MemDisk as Disk>⟧.faults self.new) result }
-        ensures exact { IsErr result ↔ FailsAt (⟦<MemDisk as Listed>⟧.next self.old) (⟦<MemDisk as Limited>⟧.limit self.old) (⟦<MemDisk as Listed>⟧.failing self.old) }
-        ensures counted { ⟦<MemDisk as Listed>⟧.next self.new ≡ next_number (⟦<MemDisk as Listed>⟧.next self.old) }
-        ensures listed { ⟦<MemDisk as Listed>⟧.failing self.new ≡ ⟦<MemDisk as Listed>⟧.failing self.old }
-        ensures limit { ⟦<MemDisk as Limited>⟧.limit self.new ≡ ⟦<MemDisk as Limited>⟧.limit self.old }
-        ensures room { ⟦<MemDisk as Bounded>⟧.room self.new ≡ ⟦<MemDisk as Bounded>⟧.room self.old }
-        ensures used { ⟦<MemDisk as Filled>⟧.used self.new ≡ ⟦<MemDisk as Filled>⟧.used self.old }
+        ensures exact { IsErr result ↔ FailsNext (⟦<MemDisk as Planned>⟧.plan self.old) }
+        ensures plan { ⟦<MemDisk as Planned>⟧.plan self.new ≡ counted (⟦<MemDisk as Planned>⟧.plan self.old) }
     {
         if self.fails_now() {
             return Err(self.fail());
@@ -297,13 +262,9 @@ impl Disk for MemDisk {
         ensures not_written { OnErr result (⟦<MemDisk as Disk>⟧.content self.new ≡ ⟦<MemDisk as Disk>⟧.content self.old) }
         ensures images { Changes (⟦<MemDisk as Disk>⟧.history self.old) (⟦<MemDisk as Disk>⟧.history self.new) (after_write (latest (⟦<MemDisk as Disk>⟧.history self.old)) at piece.now) result }
         ensures cause { HasCause (⟦<MemDisk as Disk>⟧.faults self.old) (⟦<MemDisk as Disk>⟧.faults self.new) result }
-        ensures exact { IsErr result ↔ (FailsAt (⟦<MemDisk as Listed>⟧.next self.old) (⟦<MemDisk as Limited>⟧.limit self.old) (⟦<MemDisk as Listed>⟧.failing self.old) ⊎ (⟦<MemDisk as Bounded>⟧.room self.old < ⟦<MemDisk as Filled>⟧.used self.old + length piece.now)) }
-        ensures counted { ⟦<MemDisk as Listed>⟧.next self.new ≡ next_number (⟦<MemDisk as Listed>⟧.next self.old) }
-        ensures listed { ⟦<MemDisk as Listed>⟧.failing self.new ≡ ⟦<MemDisk as Listed>⟧.failing self.old }
-        ensures limit { ⟦<MemDisk as Limited>⟧.limit self.new ≡ ⟦<MemDisk as Limited>⟧.limit self.old }
-        ensures room { ⟦<MemDisk as Bounded>⟧.room self.new ≡ ⟦<MemDisk as Bounded>⟧.room self.old }
-        ensures used { OnOk result (⟦<MemDisk as Filled>⟧.used self.new ≡ ⟦<MemDisk as Filled>⟧.used self.old + length piece.now) }
-        ensures not_used { OnErr result (⟦<MemDisk as Filled>⟧.used self.new ≡ ⟦<MemDisk as Filled>⟧.used self.old) }
+        ensures exact { let plan = ⟦<MemDisk as Planned>⟧.plan self.old in IsErr result ↔ (FailsNext plan ⊎ (plan.room < plan.used + length piece.now)) }
+        ensures plan { OnOk result (⟦<MemDisk as Planned>⟧.plan self.new ≡ filled (length piece.now) (⟦<MemDisk as Planned>⟧.plan self.old)) }
+        ensures not_filled { OnErr result (⟦<MemDisk as Planned>⟧.plan self.new ≡ counted (⟦<MemDisk as Planned>⟧.plan self.old)) }
     {
         if self.fails_now() || !self.has_room(piece.len()) {
             return Err(self.fail());
@@ -325,12 +286,8 @@ impl Disk for MemDisk {
         ensures not_cut { OnErr result (⟦<MemDisk as Disk>⟧.content self.new ≡ ⟦<MemDisk as Disk>⟧.content self.old) }
         ensures images { Changes (⟦<MemDisk as Disk>⟧.history self.old) (⟦<MemDisk as Disk>⟧.history self.new) (after_cut (latest (⟦<MemDisk as Disk>⟧.history self.old)) len) result }
         ensures cause { HasCause (⟦<MemDisk as Disk>⟧.faults self.old) (⟦<MemDisk as Disk>⟧.faults self.new) result }
-        ensures exact { IsErr result ↔ FailsAt (⟦<MemDisk as Listed>⟧.next self.old) (⟦<MemDisk as Limited>⟧.limit self.old) (⟦<MemDisk as Listed>⟧.failing self.old) }
-        ensures counted { ⟦<MemDisk as Listed>⟧.next self.new ≡ next_number (⟦<MemDisk as Listed>⟧.next self.old) }
-        ensures listed { ⟦<MemDisk as Listed>⟧.failing self.new ≡ ⟦<MemDisk as Listed>⟧.failing self.old }
-        ensures limit { ⟦<MemDisk as Limited>⟧.limit self.new ≡ ⟦<MemDisk as Limited>⟧.limit self.old }
-        ensures room { ⟦<MemDisk as Bounded>⟧.room self.new ≡ ⟦<MemDisk as Bounded>⟧.room self.old }
-        ensures used { ⟦<MemDisk as Filled>⟧.used self.new ≡ ⟦<MemDisk as Filled>⟧.used self.old }
+        ensures exact { IsErr result ↔ FailsNext (⟦<MemDisk as Planned>⟧.plan self.old) }
+        ensures plan { ⟦<MemDisk as Planned>⟧.plan self.new ≡ counted (⟦<MemDisk as Planned>⟧.plan self.old) }
     {
         if self.fails_now() {
             return Err(self.fail());
@@ -347,12 +304,8 @@ impl Disk for MemDisk {
         ensures content { ⟦<MemDisk as Disk>⟧.content self.new ≡ ⟦<MemDisk as Disk>⟧.content self.old }
         ensures images { Syncs (⟦<MemDisk as Disk>⟧.history self.old) (⟦<MemDisk as Disk>⟧.history self.new) result }
         ensures cause { HasCause (⟦<MemDisk as Disk>⟧.faults self.old) (⟦<MemDisk as Disk>⟧.faults self.new) result }
-        ensures exact { IsErr result ↔ FailsAt (⟦<MemDisk as Listed>⟧.next self.old) (⟦<MemDisk as Limited>⟧.limit self.old) (⟦<MemDisk as Listed>⟧.failing self.old) }
-        ensures counted { ⟦<MemDisk as Listed>⟧.next self.new ≡ next_number (⟦<MemDisk as Listed>⟧.next self.old) }
-        ensures listed { ⟦<MemDisk as Listed>⟧.failing self.new ≡ ⟦<MemDisk as Listed>⟧.failing self.old }
-        ensures limit { ⟦<MemDisk as Limited>⟧.limit self.new ≡ ⟦<MemDisk as Limited>⟧.limit self.old }
-        ensures room { ⟦<MemDisk as Bounded>⟧.room self.new ≡ ⟦<MemDisk as Bounded>⟧.room self.old }
-        ensures used { ⟦<MemDisk as Filled>⟧.used self.new ≡ ⟦<MemDisk as Filled>⟧.used self.old }
+        ensures exact { IsErr result ↔ FailsNext (⟦<MemDisk as Planned>⟧.plan self.old) }
+        ensures plan { ⟦<MemDisk as Planned>⟧.plan self.new ≡ counted (⟦<MemDisk as Planned>⟧.plan self.old) }
     {
         if self.fails_now() {
             return Err(self.fail());
@@ -374,68 +327,6 @@ impl Disk for MemDisk {
     ghost content_is_image = { λ m told. image_is_latest m.first.items m.calls.items m.pieces.items m.made _ m.counted.1 m.state _ m.image };
 }
 
-// Adds a value to a list that has room for it.
-fn push_within<T: Drop>(list: &mut Vec<T>, value: T)
-    requires { vec_len list.old < vec_capacity list.old }
-    ensures items { list.new.items ≡ list.old.items ++ value ∷ [] }
-    ensures capacity { vec_capacity list.old ≤ vec_capacity list.new }
-{
-    match list.push(value) {
-        Ok(()) => {}
-        Err(_) => unreachable!(),
-    }
-}
-
-// Adds bytes to a list that has room for them.
-pub(crate) fn extend_within(list: &mut Vec<u8>, bytes: &[u8])
-    requires { vec_len list.old + length bytes.now ≤ vec_capacity list.old }
-    ensures items { list.new.items ≡ list.old.items ++ bytes.now }
-    ensures capacity { vec_capacity list.old ≤ vec_capacity list.new }
-{
-    match list.extend_from_slice(bytes) {
-        Ok(()) => {}
-        Err(_) => unreachable!(),
-    }
-}
-
-// Writes a piece over bytes that have room for it.
-pub(crate) fn overwrite(bytes: &mut Vec<u8>, at: usize, piece: &[u8])
-    requires within { at ≤ vec_len bytes.old }
-    requires room { at + length piece.now ≤ vec_capacity bytes.old }
-    ensures items { bytes.new.items ≡ overwritten bytes.old.items at piece.now }
-    ensures capacity { vec_capacity bytes.old ≤ vec_capacity bytes.new }
-{
-    if piece.len() <= bytes.len() - at {
-        bytes[at..at + piece.len()].copy_from_slice(piece);
-    } else {
-        bytes.truncate(at);
-        extend_within(bytes, piece);
-    }
-}
-
-// Puts other bytes in the place of those that are there, which has room for them.
-fn copy_within(list: &mut Vec<u8>, bytes: &[u8])
-    requires { length bytes.now ≤ vec_capacity list.old }
-    ensures items { list.new.items ≡ bytes.now }
-    ensures capacity { vec_capacity list.old ≤ vec_capacity list.new }
-{
-    list.clear();
-    extend_within(list, bytes);
-}
-
-// Cuts bytes to a length, or fills them up to it.
-fn set_len_within(list: &mut Vec<u8>, len: usize, fill: u8)
-    requires { len ≤ vec_capacity list.old }
-    ensures length { length list.new.items ≡ len }
-    ensures kept { (place : ℕ) → place < len → place < length list.old.items → slice_index list.new.items place ≡ slice_index list.old.items place }
-    ensures capacity { vec_capacity list.old ≤ vec_capacity list.new }
-{
-    match list.resize(len, fill) {
-        Ok(()) => {}
-        Err(_) => unreachable!(),
-    }
-}
-
 // Writes a byte at each place of these ranges.
 fn fill_ranges(bytes: &mut [u8], ranges: &[(usize, usize)], fill: u8)
     ensures inside { (place : ℕ) → place < length bytes.old → InSome ranges.now place → slice_index bytes.new place ≡ fill }
@@ -446,13 +337,12 @@ fn fill_ranges(bytes: &mut [u8], ranges: &[(usize, usize)], fill: u8)
     }
 }
 
+// Writes a byte at each place of a range that is there.
 fn fill_range(bytes: &mut [u8], at: usize, len: usize, fill: u8)
+    ensures length { length bytes.new ≡ length bytes.old }
     ensures inside { (place : ℕ) → place < length bytes.old → InRange (at, len) place → slice_index bytes.new place ≡ fill }
     ensures outside { (place : ℕ) → ¬ InRange (at, len) place → slice_index bytes.new place ≡ slice_index bytes.old place }
 {
-    for (place, byte) in bytes.iter_mut().enumerate() {
-        if at <= place && place - at < len {
-            *byte = fill;
-        }
-    }
+    let end = at.saturating_add(len).min(bytes.len());
+    bytes[at.min(end)..end].fill(fill);
 }

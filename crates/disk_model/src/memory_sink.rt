@@ -1,10 +1,10 @@
 // A sink in memory.
 ghost use Rattle.std.specs.Prelude.{◌≡◌, ◌⊎◌, ◌-◌, ◌<◌, ◌≤◌, ◌++◌, ◌↔◌, [], length, take, min, IfOk, OnErr, IsErr, vec_capacity};
 ghost use Rattle.disk_model.specs.Faults.{HasCause};
-ghost use Rattle.disk_model.specs.Listed.{IsListed, next_number};
+ghost use Rattle.disk_model.specs.Plans.{SinkPlan, IsListed, next_number};
 
-use crate::call_count::{Bounded, CallCount, Filled, Listed, Stepped};
-use crate::memory_disk::extend_within;
+use crate::call_count::{CallCount, Planned};
+use crate::lists::extend_within;
 use crate::{Failed, Sink};
 use std::alloc::{AllocError, Global};
 
@@ -32,11 +32,7 @@ impl MemSink {
         requires moves { 1 ≤ step }
         ensures written { IfOk result (λ sink. ⟦<MemSink as Sink>⟧.written sink ≡ []) }
         ensures faults { IfOk result (λ sink. ⟦<MemSink as Sink>⟧.faults sink ≡ 0) }
-        ensures next { IfOk result (λ sink. ⟦<MemSink as Listed>⟧.next sink ≡ 0) }
-        ensures listed { IfOk result (λ sink. ⟦<MemSink as Listed>⟧.failing sink ≡ failing.items) }
-        ensures room { IfOk result (λ sink. ⟦<MemSink as Bounded>⟧.room sink ≡ room) }
-        ensures used { IfOk result (λ sink. ⟦<MemSink as Filled>⟧.used sink ≡ 0) }
-        ensures step { IfOk result (λ sink. ⟦<MemSink as Stepped>⟧.step sink ≡ step) }
+        ensures plan { IfOk result (λ sink. ⟦<MemSink as Planned>⟧.plan sink ≡ record { room = room; step = step; next = 0; failing = failing.items }) }
     {
         Ok(MemSink {
             written: Vec::with_capacity(alloc, room)?,
@@ -54,22 +50,10 @@ impl MemSink {
     }
 }
 
-impl Bounded for MemSink {
-    ghost room = { λ sink. sink.room };
-}
+impl Planned for MemSink {
+    ghost Plan = { SinkPlan };
 
-impl Filled for MemSink {
-    ghost used = { λ sink. length sink.written.items };
-}
-
-impl Stepped for MemSink {
-    ghost step = { λ sink. sink.step };
-}
-
-impl Listed for MemSink {
-    ghost next = { λ sink. sink.calls.made };
-
-    ghost failing = { λ sink. sink.calls.failing.items };
+    ghost plan = { λ sink. record { room = sink.room; step = sink.step; next = sink.calls.made; failing = sink.calls.failing.items } };
 }
 
 impl Sink for MemSink {
@@ -85,14 +69,11 @@ impl Sink for MemSink {
         ensures taken { IfOk result (λ n. ⟦<MemSink as Sink>⟧.written self.new ≡ ⟦<MemSink as Sink>⟧.written self.old ++ take n piece.now) }
         ensures nothing { OnErr result (⟦<MemSink as Sink>⟧.written self.new ≡ ⟦<MemSink as Sink>⟧.written self.old) }
         ensures cause { HasCause (⟦<MemSink as Sink>⟧.faults self.old) (⟦<MemSink as Sink>⟧.faults self.new) result }
-        ensures most { IfOk result (λ n. n ≡ min (min (length piece.now) (⟦<MemSink as Stepped>⟧.step self.old)) (⟦<MemSink as Bounded>⟧.room self.old - ⟦<MemSink as Filled>⟧.used self.old)) }
-        ensures exact { IsErr result ↔ (IsListed (⟦<MemSink as Listed>⟧.failing self.old) (⟦<MemSink as Listed>⟧.next self.old)
-            ⊎ ((0 < length piece.now) × (⟦<MemSink as Bounded>⟧.room self.old ≤ ⟦<MemSink as Filled>⟧.used self.old))) }
-        ensures counted { ⟦<MemSink as Listed>⟧.next self.new ≡ next_number (⟦<MemSink as Listed>⟧.next self.old) }
-        ensures listed { ⟦<MemSink as Listed>⟧.failing self.new ≡ ⟦<MemSink as Listed>⟧.failing self.old }
-        ensures room { ⟦<MemSink as Bounded>⟧.room self.new ≡ ⟦<MemSink as Bounded>⟧.room self.old }
-        ensures used { ⟦<MemSink as Filled>⟧.used self.new ≡ length (⟦<MemSink as Sink>⟧.written self.new) }
-        ensures step { ⟦<MemSink as Stepped>⟧.step self.new ≡ ⟦<MemSink as Stepped>⟧.step self.old }
+        ensures most { let plan = ⟦<MemSink as Planned>⟧.plan self.old in
+            IfOk result (λ n. n ≡ min (min (length piece.now) plan.step) (plan.room - length (⟦<MemSink as Sink>⟧.written self.old))) }
+        ensures exact { let plan = ⟦<MemSink as Planned>⟧.plan self.old in
+            IsErr result ↔ (IsListed plan.failing plan.next ⊎ ((0 < length piece.now) × (plan.room ≤ length (⟦<MemSink as Sink>⟧.written self.old)))) }
+        ensures plan { let plan = ⟦<MemSink as Planned>⟧.plan self.old in ⟦<MemSink as Planned>⟧.plan self.new ≡ record plan { next = next_number plan.next } }
     {
         let taken = piece
             .len()

@@ -1,10 +1,10 @@
 // A source in memory.
 ghost use Rattle.std.specs.Prelude.{◌≡◌, ◌+◌, ◌-◌, ◌<◌, ◌≤◌, ◌^◌, ◌++◌, ◌↔◌, [], length, take, drop, min, IfOk, OnErr, IsErr};
 ghost use Rattle.disk_model.specs.Faults.{HasCause};
-ghost use Rattle.disk_model.specs.Listed.{IsListed, next_number};
+ghost use Rattle.disk_model.specs.Plans.{SourcePlan, IsListed, next_number};
 ghost use Rattle.std.proofs.Math.Nat.{le_trans, sub-le};
 
-use crate::call_count::{CallCount, Listed, Stepped};
+use crate::call_count::{CallCount, Planned};
 use crate::{Failed, Source};
 
 #[derive(Drop)]
@@ -27,10 +27,8 @@ impl MemSource {
         requires small { length bytes.items ≤ 2 ^ 62 }
         ensures left { ⟦<MemSource as Source>⟧.left result ≡ bytes.items }
         ensures bound { ⟦<MemSource as Source>⟧.bound result ≡ length bytes.items }
-        ensures step { ⟦<MemSource as Stepped>⟧.step result ≡ step }
         ensures faults { ⟦<MemSource as Source>⟧.faults result ≡ 0 }
-        ensures next { ⟦<MemSource as Listed>⟧.next result ≡ 0 }
-        ensures listed { ⟦<MemSource as Listed>⟧.failing result ≡ failing.items }
+        ensures plan { ⟦<MemSource as Planned>⟧.plan result ≡ record { step = step; next = 0; failing = failing.items } }
     {
         MemSource {
             bytes,
@@ -41,14 +39,10 @@ impl MemSource {
     }
 }
 
-impl Stepped for MemSource {
-    ghost step = { λ source. source.step };
-}
+impl Planned for MemSource {
+    ghost Plan = { SourcePlan };
 
-impl Listed for MemSource {
-    ghost next = { λ source. source.calls.made };
-
-    ghost failing = { λ source. source.calls.failing.items };
+    ghost plan = { λ source. record { step = source.step; next = source.calls.made; failing = source.calls.failing.items } };
 }
 
 impl Source for MemSource {
@@ -68,11 +62,10 @@ impl Source for MemSource {
         ensures nearer { IfOk result (λ n. ⟦<MemSource as Source>⟧.bound self.new + n ≤ ⟦<MemSource as Source>⟧.bound self.old) }
         ensures no_further { OnErr result (⟦<MemSource as Source>⟧.bound self.new ≤ ⟦<MemSource as Source>⟧.bound self.old) }
         ensures cause { HasCause (⟦<MemSource as Source>⟧.faults self.old) (⟦<MemSource as Source>⟧.faults self.new) result }
-        ensures most { IfOk result (λ n. n ≡ min (min (length buf.old) (⟦<MemSource as Stepped>⟧.step self.old)) (length (⟦<MemSource as Source>⟧.left self.old))) }
-        ensures exact { IsErr result ↔ IsListed (⟦<MemSource as Listed>⟧.failing self.old) (⟦<MemSource as Listed>⟧.next self.old) }
-        ensures counted { ⟦<MemSource as Listed>⟧.next self.new ≡ next_number (⟦<MemSource as Listed>⟧.next self.old) }
-        ensures listed { ⟦<MemSource as Listed>⟧.failing self.new ≡ ⟦<MemSource as Listed>⟧.failing self.old }
-        ensures step { ⟦<MemSource as Stepped>⟧.step self.new ≡ ⟦<MemSource as Stepped>⟧.step self.old }
+        ensures most { let plan = ⟦<MemSource as Planned>⟧.plan self.old in
+            IfOk result (λ n. n ≡ min (min (length buf.old) plan.step) (length (⟦<MemSource as Source>⟧.left self.old))) }
+        ensures exact { let plan = ⟦<MemSource as Planned>⟧.plan self.old in IsErr result ↔ IsListed plan.failing plan.next }
+        ensures plan { let plan = ⟦<MemSource as Planned>⟧.plan self.old in ⟦<MemSource as Planned>⟧.plan self.new ≡ record plan { next = next_number plan.next } }
     {
         if self.calls.fails_next() {
             return Err(self.calls.fail());

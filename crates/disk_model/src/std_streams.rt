@@ -1,5 +1,6 @@
 // The standard streams. They tell nothing but their faults.
 ghost use Rattle.std.specs.Prelude.{◌≡◌, ◌≤◌, ◌^◌, []};
+ghost use Rattle.disk_model.specs.Faults.{Rose};
 
 use crate::{Failed, Sink, Source};
 use std::io::{Read, Write};
@@ -29,6 +30,16 @@ impl StdSource {
             faults: 0,
         }
     }
+
+    // Counts a failure.
+    fn fail(&mut self) -> Failed
+        ensures left { self.new.left ≡ self.old.left }
+        ensures later { self.old.faults ≤ self.new.faults }
+        ensures rose { Rose self.old.faults self.new.faults }
+    {
+        self.faults = self.faults.saturating_add(1);
+        Failed
+    }
 }
 
 impl Source for StdSource {
@@ -41,16 +52,17 @@ impl Source for StdSource {
     ghost faults = { λ source. source.faults };
 
     fn read(&mut self, buf: &mut [u8]) -> Result<usize, Failed> {
+        // Once it has given all that it may, it fails without a call of the stream.
+        if self.left == 0 {
+            return Err(self.fail());
+        }
         let most = buf.len().min(self.left as usize);
         match self.stdin.read(&mut buf[..most]) {
-            Ok(given) if self.left > 0 => {
+            Ok(given) => {
                 self.left -= given as u64;
                 Ok(given)
             }
-            _ => {
-                self.faults = self.faults.saturating_add(1);
-                Err(Failed)
-            }
+            Err(_) => Err(self.fail()),
         }
     }
 

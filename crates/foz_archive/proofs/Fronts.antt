@@ -1,11 +1,16 @@
 -- What the first sixteen bytes say of a file.
-use Rattle.std.proofs.Common.{◌≡◌, ◌≢◌, ℕ, ◌-◌, ◌≤◌, min, Bool, true, nat_eq, List, [], ◌∷◌, ◌++◌, length, get_or, take, drop, replicate, refl, sym, ap, ◌∙◌, arith, take-append-drop, length-take}
+use Rattle.std.proofs.Common.{◌≡◌, ◌⊎◌, inl, inr, ℕ, ◌-◌, ◌≤◌, min, Bool, true, false, nat_eq, List, ◌++◌, length, get_or, take, drop, replicate, refl, sym, ap, subst, ◌∙◌, arith, take-append-drop, length-append, length-take}
+use Rattle.std.specs.Bool.{Decides}
 use Rattle.std.specs.List.{starts_with}
+use Rattle.std.specs.Str.{bytes_eq}
+use Rattle.std.proofs.lemmas.Bool.{cases_lt}
+use Rattle.std.proofs.lemmas.Bool.Decides.{not_from_Decides}
+use Rattle.std.proofs.lemmas.Slice.Eq.{bytes_eq-Decides}
 use Rattle.std.proofs.lemmas.Bool.Decides.{Decides-eqb}
 use Rattle.std.proofs.lemmas.Slice.Eq.{starts_is}
-use Rattle.std.proofs.lemmas.List.{take_at, take-take, take_more, take_min, get_or-take}
-use Rattle.foz_archive.specs.Reading.{magic, header}
-use Rattle.foz_archive.specs.Refusal.{HasMagic, first_bytes, IsBadMagic, IsBadVersion}
+use Rattle.std.proofs.lemmas.List.{take_at, take-take, take_min, get_or-take}
+use Rattle.foz_archive.specs.Reading.{magic, header, writing, is_one_of, HasMagic, HasHeader}
+use Rattle.foz_archive.specs.Refusal.{first_bytes, IsBadMagic, IsBadVersion}
 
 length-magic : length magic ≡ 15
 unfolding magic
@@ -40,34 +45,61 @@ module _ (file front : List ℕ) (is : take 16 file ≡ front) where
   pub bad_magic : (len : ℕ) → length file ≡ len → ¬ HasMagic front → IsBadMagic file len (first_bytes front)
   bad_magic len long none = record { no_magic = λ has. none (magic_of_file has); len_is = sym long; bytes_are = same_first }
 
-  pub bad_version : (version : ℕ) → HasMagic front → version ≡ get_or front 15 0 → version ≢ 6 → IsBadVersion file version
-  bad_version version has at other = record {
-    has_magic = magic_of_front has;
-    version_is = at ∙ ap (λ (l : List ℕ). get_or l 15 0) (sym is) ∙ get_or-take 16 file 15 0 (omega arith);
-    other = other;
+  same_version : get_or front 15 0 ≡ get_or file 15 0
+  same_version = ap (λ (l : List ℕ). get_or l 15 0) (sym is) ∙ get_or-take 16 file 15 0 (omega arith)
+
+  pub bad_version : (versions : List ℕ) (version : ℕ) → HasMagic front → version ≡ get_or front 15 0 → is_one_of versions version ≡ false → IsBadVersion versions file version
+  bad_version versions version has at other = record { has_magic = magic_of_front has; version_is = at ∙ same_version; other = other }
+
+  pub header_of_front : (versions : List ℕ) → HasHeader versions front → HasHeader versions file
+  header_of_front versions has = record {
+    has_magic = magic_of_front has.has_magic;
+    known = subst (λ (v : ℕ). is_one_of versions v ≡ true) same_version has.known;
   }
 
--- the magic bytes and then the version
-pub header_is : (front : List ℕ) → HasMagic front → get_or front 15 0 ≡ 6 → take 16 front ≡ header
-unfolding header
-header_is front has six =
-    take_more front 15 0 (omega (arith, has.long)) ∙ ap (λ (l : List ℕ). l ++ get_or front 15 0 ∷ []) has.begins ∙ ap (λ (n : ℕ). magic ++ n ∷ []) six
+  header_of_file : (versions : List ℕ) → HasHeader versions file → HasHeader versions front
+  header_of_file versions has = record {
+    has_magic = magic_of_file has.has_magic;
+    known = subst (λ (v : ℕ). is_one_of versions v ≡ true) (sym same_version) has.known;
+  }
+
+-- a header is known by the first sixteen bytes
+pub header_stays : (versions file other : List ℕ) → take 16 other ≡ take 16 file → HasHeader versions file → HasHeader versions other
+header_stays versions file other same has = header_of_front other (take 16 file) same versions (header_of_file file (take 16 file) refl versions has)
 
 -- a front is what the whole file begins with
 pub front_of : (file : List ℕ) (n : ℕ) → n ≡ min (length file) 16 → take 16 file ≡ take n file
 front_of file n is = sym (take_min 16 file) ∙ ap (λ (k : ℕ). take k file) (omega (arith, is))
 
-pub header_from : (file : List ℕ) (n : ℕ) → n ≡ min (length file) 16 → take 16 (take n file) ≡ header → take 16 file ≡ header
-header_from file n is good = sym (take-take 16 16 file (omega arith)) ∙ ap (take 16) (front_of file n is) ∙ good
+pub header_from : (versions file : List ℕ) (n : ℕ) → n ≡ min (length file) 16 → HasHeader versions (take n file) → HasHeader versions file
+header_from versions file n is good = header_of_front file (take n file) (front_of file n is) versions good
 
-pub long_of_header : (file : List ℕ) → take 16 file ≡ header → 16 ≤ length file
+pub length-header : length header ≡ 16
 unfolding header magic
-long_of_header file is = omega (arith, ap length is, length-take 16 file)
+length-header = refl
 
-pub magic_of_header : (file : List ℕ) → take 16 file ≡ header → HasMagic file
+-- a file that begins with the header of the version that is written
+pub header_there : (rest : List ℕ) → HasHeader writing (header ++ rest)
 unfolding header magic
-magic_of_header file is = record { long = long_of_header file is; begins = sym (take-take 15 16 file (omega arith)) ∙ ap (take 15) is }
+header_there rest = record {
+  has_magic = record { long = omega (arith, length-append header rest, length-header); begins = refl };
+  known = refl;
+}
 
-pub six_of_header : (file : List ℕ) → take 16 file ≡ header → get_or file 15 0 ≡ 6
-unfolding header magic
-six_of_header file is = sym (get_or-take 16 file 15 0 (omega arith)) ∙ ap (λ (l : List ℕ). get_or l 15 0) is
+decide : {P : Type 0} (r : Bool) → Decides r P → P ⊎ (P → ⊥)
+decide true told = inl (told.0 refl)
+decide false told = inr (not_from_Decides false told refl)
+
+-- a file has such a header, or it hasn't
+pub header_or_not : (versions file : List ℕ) → HasHeader versions file ⊎ (HasHeader versions file → ⊥)
+header_or_not versions file = elim (cases_lt (length file) 16) [
+  | inl less ↦ inr (λ has. let long = has.has_magic.long in omega arith)
+  | inr long ↦ elim (decide (bytes_eq (take 15 file) magic) (bytes_eq-Decides (take 15 file) magic)) [
+    | inl begins ↦ by_version long begins (is_one_of versions (get_or file 15 0)) refl
+    | inr other ↦ inr (λ has. other has.has_magic.begins)
+  ]
+]
+  where
+    by_version : 16 ≤ length file → take 15 file ≡ magic → (known : Bool) → is_one_of versions (get_or file 15 0) ≡ known → HasHeader versions file ⊎ (HasHeader versions file → ⊥)
+    by_version long begins true is = inl (record { has_magic = record { long = long; begins = begins }; known = is })
+    by_version long begins false is = inr (λ has. absurd (let known = has.known in cc))

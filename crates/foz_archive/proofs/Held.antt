@@ -1,58 +1,65 @@
 -- What each image of an archive holds, from the bytes that the gate leaves.
-use Rattle.std.proofs.Common.{◌≡◌, ◌⊎◌, inl, inr, ℕ, ◌+◌, ◌≤◌, List, [], ◌∷◌, ◌++◌, length, get_or, take, drop, refl, sym, ◌∙◌, ap, subst, arith, append_assoc, length-append, length-drop, length-take, take-append-drop, get_or-drop}
-use Rattle.std.proofs.lemmas.List.{take_at, drop_at, drop-append-le}
+use Rattle.std.proofs.Common.{◌≡◌, ◌⊎◌, inl, inr, ℕ, ◌+◌, ◌≤◌, List, [], ◌∷◌, ◌++◌, length, get_or, take, drop, sym, ◌∙◌, ap, subst, arith, append_assoc, length-append, length-drop, length-take, take-append-drop, get_or-drop}
+use Rattle.std.proofs.lemmas.List.{take_at, take-take, drop_at, drop-append-le}
 use Rattle.std.proofs.lemmas.Bool.{cases_lt}
 use Rattle.foz_entry.specs.declared.cut.Entry.{Entry}
 use Rattle.gate_append.specs.Gate.{IsCutOrClosed, IsWithoutOrWith}
-use Rattle.foz_archive.specs.Reading.{magic, header, BeginsWithNone, Stand, InRow, Reads, IsAccepted, Holds, end_limit, count_limit}
+use Rattle.foz_entry.specs.Limits.{end_limit, count_limit}
+use Rattle.foz_archive.specs.Reading.{writing, HasHeader, BeginsWithNone, Stand, InRow, Reads, IsAccepted, Holds}
+use Rattle.foz_archive.proofs.Fronts.{header_stays}
 use Rattle.foz_archive.proofs.Rows.{row_of, rows_join, row_stands, stand_row, none_short, none_shut, none_front}
-
-pub length-header : length header ≡ 16
-unfolding header magic
-length-header = refl
 
 -- A file in three parts: the header, the entries, and what begins with no whole entry.
 pub record Parts (file : List ℕ) (entries : List Entry) (end : ℕ) : Type 0 where
+  pub first : List ℕ
+  pub sixteen : length first ≡ 16
   pub body : List ℕ
   pub rest : List ℕ
-  pub is : file ≡ header ++ (body ++ rest)
+  pub is : file ≡ first ++ (body ++ rest)
   pub ends : end ≡ 16 + length body
   pub before : (other : List ℕ) → InRow 16 (body ++ other) entries end other
   pub none_after : BeginsWithNone rest
 
-pub parts_of : (file : List ℕ) (entries : List Entry) (end : ℕ) → Reads file entries end → Parts file entries end
-parts_of file entries end reads =
+pub parts_of : (versions file : List ℕ) (entries : List Entry) (end : ℕ) → Reads versions file entries end → Parts file entries end
+parts_of versions file entries end reads =
     let (rest, stands, none) = stand_row 16 end (drop 16 file) entries reads.stand in
     let row = row_of 16 (drop 16 file) entries end rest stands in
+    let long = reads.begins.has_magic.long in
     record {
+      first = take 16 file;
+      sixteen = omega (arith, long, length-take 16 file);
       body = row.spelling;
       rest = rest;
-      is = sym (take-append-drop 16 file) ∙ ap (λ (l : List ℕ). l ++ drop 16 file) reads.begins ∙ ap (λ (l : List ℕ). header ++ l) row.is;
+      is = sym (take-append-drop 16 file) ∙ ap (λ (l : List ℕ). take 16 file ++ l) row.is;
       ends = omega (arith, row.long);
       before = row.before;
       none_after = none;
     }
 
-pub reads_of : (file body rest : List ℕ) (entries : List Entry) (end : ℕ) → file ≡ header ++ (body ++ rest) → InRow 16 (body ++ rest) entries end rest → BeginsWithNone rest → Reads file entries end
-reads_of file body rest entries end is row none = record {
-  begins = ap (take 16) is ∙ take_at header (body ++ rest) 16 length-header;
-  stand = subst (λ (l : List ℕ). Stand 16 l entries end) (sym (ap (drop 16) is ∙ drop_at header (body ++ rest) 16 length-header)) (row_stands 16 end (body ++ rest) rest entries row none);
+pub reads_of : (versions file first body rest : List ℕ) (entries : List Entry) (end : ℕ) → length first ≡ 16 → HasHeader versions file → file ≡ first ++ (body ++ rest)
+    → InRow 16 (body ++ rest) entries end rest → BeginsWithNone rest → Reads versions file entries end
+reads_of versions file first body rest entries end sixteen begins is row none = record {
+  begins = begins;
+  stand = subst (λ (l : List ℕ). Stand 16 l entries end) (sym (ap (drop 16) is ∙ drop_at first (body ++ rest) 16 sixteen)) (row_stands 16 end (body ++ rest) rest entries row none);
 }
 
-module _ (content : List ℕ) (entries : List Entry) (end : ℕ) (reads : Reads content entries end) where
+module _ (versions content : List ℕ) (entries : List Entry) (end : ℕ) (reads : Reads versions content entries end) where
   parts : Parts content entries end
-  parts = parts_of content entries end reads
+  parts = parts_of versions content entries end reads
 
   front : List ℕ
-  front = header ++ parts.body
+  front = parts.first ++ parts.body
 
   length-front : length front ≡ end
   unfolding front
-  length-front = omega (arith, length-append header parts.body, length-header, parts.ends)
+  length-front = omega (arith, length-append parts.first parts.body, parts.sixteen, parts.ends)
+
+  from_header : 16 ≤ end
+  from_header = omega (arith, parts.ends)
 
   content_is : content ≡ front ++ parts.rest
   unfolding front
-  content_is = parts.is ∙ sym (append_assoc header parts.body parts.rest)
+  content_is = parts.is ∙ sym (append_assoc parts.first parts.body parts.rest)
 
   front_is : take end content ≡ front
   front_is = ap (take end) content_is ∙ take_at front parts.rest end length-front
@@ -63,16 +70,21 @@ module _ (content : List ℕ) (entries : List Entry) (end : ℕ) (reads : Reads 
   pub end_within : end ≤ length content
   end_within = omega (arith, ap length content_is, length-append front parts.rest, length-front)
 
-  -- the same entries stand in each file with the same front and no whole entry behind it
-  pub same_front : (bytes : List ℕ) → take end bytes ≡ take end content → BeginsWithNone (drop end bytes) → Reads bytes entries end
+  header_kept : (bytes : List ℕ) → take end bytes ≡ take end content → HasHeader versions bytes
+  header_kept bytes same =
+      let le = from_header in
+      header_stays versions content bytes (sym (take-take 16 end bytes le) ∙ ap (take 16) same ∙ take-take 16 end content le) reads.begins
+
+  -- the same entries stand in each file with the same front and no whole entry after it
+  pub same_front : (bytes : List ℕ) → take end bytes ≡ take end content → BeginsWithNone (drop end bytes) → Reads versions bytes entries end
   unfolding front
   same_front bytes same none =
-      reads_of bytes parts.body (drop end bytes) entries end
-      (sym (take-append-drop end bytes) ∙ ap (λ (l : List ℕ). l ++ drop end bytes) (same ∙ front_is) ∙ append_assoc header parts.body (drop end bytes))
+      reads_of versions bytes parts.first parts.body (drop end bytes) entries end parts.sixteen (header_kept bytes same)
+      (sym (take-append-drop end bytes) ∙ ap (λ (l : List ℕ). l ++ drop end bytes) (same ∙ front_is) ∙ append_assoc parts.first parts.body (drop end bytes))
       (parts.before (drop end bytes)) none
 
   -- each image of an opening holds what the content held
-  pub opening_reads : (bytes : List ℕ) → IsCutOrClosed end content bytes → Reads bytes entries end
+  pub opening_reads : (bytes : List ℕ) → IsCutOrClosed end content bytes → Reads versions bytes entries end
   opening_reads bytes left = same_front bytes left.front_stays (elim left.rest [
     | inl is_front ↦
         let n = length bytes in
@@ -86,36 +98,37 @@ module _ (content : List ℕ) (entries : List Entry) (end : ℕ) (reads : Reads 
     | inr short ↦ none_short (drop end bytes) (omega (arith, length-drop end bytes))
   ])
 
-  -- the entries and a batch behind them
-  pub batch_reads : (added : List Entry) (batch : List ℕ) (next : ℕ) → InRow end batch added next (0 ∷ []) → Reads (take end content ++ batch) (entries ++ added) next
+  -- the entries and a batch after them
+  pub batch_reads : (added : List Entry) (batch : List ℕ) (next : ℕ) → InRow end batch added next (0 ∷ []) → Reads versions (take end content ++ batch) (entries ++ added) next
   unfolding front
   batch_reads added batch next row =
       let it = row_of end batch added next (0 ∷ []) row in
       let joined = rows_join 16 end next (parts.body ++ batch) batch (0 ∷ []) entries added (parts.before batch) row in
       let is = append_assoc parts.body it.spelling (0 ∷ []) in
       let split : parts.body ++ batch ≡ (parts.body ++ it.spelling) ++ 0 ∷ [] = ap (λ (l : List ℕ). parts.body ++ l) it.is ∙ sym is in
-      reads_of (take end content ++ batch) (parts.body ++ it.spelling) (0 ∷ []) (entries ++ added) next
-      (ap (λ (l : List ℕ). l ++ batch) front_is ∙ append_assoc header parts.body batch ∙ ap (λ (l : List ℕ). header ++ l) split)
+      let whole_front : take end (take end content ++ batch) ≡ take end content = take_at (take end content) batch end (ap length front_is ∙ length-front) in
+      reads_of versions (take end content ++ batch) parts.first (parts.body ++ it.spelling) (0 ∷ []) (entries ++ added) next parts.sixteen (header_kept (take end content ++ batch) whole_front)
+      (ap (λ (l : List ℕ). l ++ batch) front_is ∙ append_assoc parts.first parts.body batch ∙ ap (λ (l : List ℕ). parts.first ++ l) split)
       (subst (λ (l : List ℕ). InRow 16 l (entries ++ added) next (0 ∷ [])) split joined)
       (none_short (0 ∷ []) (omega arith))
 
   -- each image of an append holds the entries before it, or all of them
   pub append_reads : (added : List Entry) (batch bytes : List ℕ) (next : ℕ) → InRow end batch added next (0 ∷ []) → IsWithoutOrWith (take end content) batch bytes
-      → Reads bytes entries end ⊎ Reads bytes (entries ++ added) next
+      → Reads versions bytes entries end ⊎ Reads versions bytes (entries ++ added) next
   append_reads added batch bytes next row (inl without) =
       let long : length (take end content) ≡ end = ap length front_is ∙ length-front in
       inl (same_front bytes (sym (ap (λ (k : ℕ). take k bytes) long) ∙ without.front_stays)
       (none_shut (drop end bytes) (λ is_open.
       let place : end ≡ end + 0 = omega arith in
       without.not_open (ap (λ (k : ℕ). get_or bytes k 0) (long ∙ place) ∙ sym (get_or-drop end bytes 0 0) ∙ is_open))))
-  append_reads added batch bytes next row (inr whole) = inr (subst (λ (l : List ℕ). Reads l (entries ++ added) next) (sym whole) (batch_reads added batch next row))
+  append_reads added batch bytes next row (inr whole) = inr (subst (λ (l : List ℕ). Reads versions l (entries ++ added) next) (sym whole) (batch_reads added batch next row))
 
 module _ (content : List ℕ) (entries : List Entry) (end : ℕ) (accepted : IsAccepted content entries end) where
   pub opening_holds : (bytes : List ℕ) → IsCutOrClosed end content bytes → Holds bytes entries
   opening_holds bytes left = inr (
     end,
     record {
-      reads = opening_reads content entries end accepted.reads bytes left;
+      reads = opening_reads writing content entries end accepted.reads bytes left;
       short = elim left.rest [
         | inl is_front ↦ omega (arith, ap length is_front, length-take (length bytes) content, accepted.short)
         | inr few ↦ omega (arith, few, accepted.near)
@@ -130,18 +143,18 @@ module _ (content : List ℕ) (entries : List Entry) (end : ℕ) (accepted : IsA
     length-batch = let it = row_of end batch added next (0 ∷ []) row in omega (arith, ap length it.is, length-append it.spelling (0 ∷ []), it.long)
 
     length-end : length (take end content) ≡ end
-    length-end = omega (arith, length-take end content, end_within content entries end accepted.reads)
+    length-end = omega (arith, length-take end content, end_within writing content entries end accepted.reads)
 
     pub batch_accepted : IsAccepted (take end content ++ batch) (entries ++ added) next
     batch_accepted = record {
-      reads = batch_reads content entries end accepted.reads added batch next row;
+      reads = batch_reads writing content entries end accepted.reads added batch next row;
       short = omega (arith, length-append (take end content) batch, length-end, length-batch, near);
       near = near;
       few = few;
     }
 
     pub append_holds : (bytes : List ℕ) → IsWithoutOrWith (take end content) batch bytes → Holds bytes entries ⊎ Holds bytes (entries ++ added)
-    append_holds bytes (inl without) = elim (append_reads content entries end accepted.reads added batch bytes next row (inl without)) [
+    append_holds bytes (inl without) = elim (append_reads writing content entries end accepted.reads added batch bytes next row (inl without)) [
       | inl reads ↦ inl (inr (end, record { reads = reads; short = omega (arith, without.no_longer, length-end, length-batch, near); near = accepted.near; few = accepted.few }))
       | inr reads ↦ inr (inr (next, record { reads = reads; short = omega (arith, without.no_longer, length-end, length-batch, near); near = near; few = few }))
     ]

@@ -1,13 +1,15 @@
 -- Entries in a row, one after the other.
-use Rattle.std.proofs.Common.{◌≡◌, ℕ, ◌+◌, ◌<◌, ◌≤◌, List, [], ◌∷◌, ◌++◌, length, drop, refl, subst, append_assoc, append-nil, length-append, length-drop, All, arith}
+use Rattle.std.proofs.Common.{◌≡◌, ℕ, ◌+◌, ◌<◌, ◌≤◌, List, [], ◌∷◌, ◌++◌, length, drop, refl, subst, append_assoc, append-nil, length-append, length-drop, sum_by, zero-add, All, arith}
+use Rattle.std.proofs.lemmas.List.Sums.{sum_by-append}
 use Rattle.std.proofs.lemmas.List.Elements.{All-nil, All-cons}
 use Rattle.foz_entry.specs.declared.cut.Cut.{Cut}
 use Rattle.foz_entry.specs.declared.cut.Entry.{Entry}
 use Rattle.foz_entry.specs.Whole.{IsWhole}
 use Rattle.foz_entry.proofs.Heads.{length-whole}
-use Rattle.foz_archive.specs.Reading.{BeginsWithNone, Stand}
+use Rattle.foz_entry.specs.Entries.{end_of}
+use Rattle.foz_archive.specs.Reading.{BeginsWithNone, Stand, IsAcceptedAs}
 
--- what is read so far: whatever stands in a row from a place on stands there behind what was read
+-- what is read so far: whatever stands in a row from a place on stands there after what was read
 abbrev pub GoesOn : ℕ → List ℕ → List Entry → ℕ → List ℕ → Type 0
 GoesOn from bytes before place rest = (entries : List Entry) (end : ℕ) → Stand place rest entries end → Stand from bytes (before ++ entries) end
 
@@ -35,12 +37,31 @@ end_within place bytes (e ∷ entries) end stand =
     let rest = stand.1.0 in
     omega (arith, length-whole bytes e.payload rest e.head stand.1.1, end_within (place + e.head.total) rest entries end stand.1.2)
 
--- nothing that is read ends past the file
-pub ends_within : (file : List ℕ) (entries : List Entry) (end : ℕ) → 16 ≤ length file → Stand 16 (drop 16 file) entries end → end ≤ length file
-ends_within file entries end long stand = omega (arith, end_within 16 (drop 16 file) entries end stand, length-drop 16 file)
-
 -- of each entry in a row the payload has the size that the head states
-pub all_sized : (place : ℕ) (bytes : List ℕ) (entries : List Entry) (end : ℕ) → Stand place bytes entries end → All (λ (entry : Entry). length entry.payload ≡ entry.head.size) entries
+all_sized : (place : ℕ) (bytes : List ℕ) (entries : List Entry) (end : ℕ) → Stand place bytes entries end → All (λ (entry : Entry). length entry.payload ≡ entry.head.size) entries
 all_sized place bytes [] end stand = All-nil (λ (entry : Entry). length entry.payload ≡ entry.head.size)
 all_sized place bytes (e ∷ entries) end stand =
     All-cons (λ (entry : Entry). length entry.payload ≡ entry.head.size) e entries stand.1.1.sized (all_sized (place + e.head.total) stand.1.0 entries end stand.1.2)
+
+-- and so the row ends where the payloads and as many heads do
+stand_ends : (place : ℕ) (bytes : List ℕ) (entries : List Entry) (end : ℕ) → Stand place bytes entries end → place + sum_by (λ (e : Entry). 56 + length e.payload) entries ≡ end
+stand_ends place bytes [] end stand = let e = stand.0 in omega arith
+stand_ends place bytes (x ∷ xs) end stand =
+    let whole = stand.1.1 in
+    let parts : sum_by (λ (e : Entry). 56 + length e.payload) (x ∷ xs) ≡ sum_by (λ (e : Entry). 56 + length e.payload) (x ∷ []) + sum_by (λ (e : Entry). 56 + length e.payload) xs = sum_by-append (λ (e : Entry). 56 + length e.payload) (x ∷ []) xs in
+    let one : sum_by (λ (e : Entry). 56 + length e.payload) (x ∷ []) ≡ 56 + length x.payload = zero-add (56 + length x.payload) in
+    let further = stand_ends (place + x.head.total) stand.1.0 xs end stand.1.2 in
+    let total = whole.begins.total in
+    let sized = whole.sized in
+    omega arith
+
+module _ (versions file : List ℕ) (entries : List Entry) (end : ℕ) (accepted : IsAcceptedAs versions file entries end) where
+  pub accepted_ends : end ≡ end_of entries
+  unfolding end_of
+  accepted_ends = let ends = stand_ends 16 _ entries end accepted.reads.stand in omega arith
+
+  pub accepted_within : end ≤ length file
+  accepted_within = omega (arith, end_within 16 (drop 16 file) entries end accepted.reads.stand, length-drop 16 file, accepted.reads.begins.has_magic.long)
+
+  pub accepted_sized : All (λ (entry : Entry). length entry.payload ≡ entry.head.size) entries
+  accepted_sized = all_sized 16 (drop 16 file) entries end accepted.reads.stand

@@ -1,14 +1,14 @@
 -- A file holds at most one list of entries.
-use Rattle.std.proofs.Common.{◌≡◌, ◌≢◌, inl, inr, Bool, ℕ, ◌+◌, ◌≤◌, get_or, List, [], ◌∷◌, length, take, drop, refl, sym, ap, subst, ◌∙◌, arith}
+use Rattle.std.proofs.Common.{◌≡◌, inl, inr, Bool, false, ℕ, ◌+◌, ◌≤◌, get_or, List, [], ◌∷◌, length, drop, refl, sym, ap, subst, ◌∙◌, arith}
 use Rattle.foz_entry.specs.declared.cut.Cut.{Cut}
 use Rattle.foz_entry.specs.declared.cut.Entry.{Entry}
 use Rattle.foz_entry.proofs.Heads.{IsWhole-unique}
 use Rattle.foz_archive.specs.declared.scanned.Scanned.{Scanned}
 use Rattle.foz_archive.specs.declared.refusal.ArchiveError.{ArchiveError}
 use Rattle.foz_archive.specs.declared.refusal.ArchiveError.TheVariants.{BadMagic, BadVersion, TooLong, TooMany}
-use Rattle.foz_archive.specs.Reading.{Stand, Holds, IsReading, is_clean, header, end_limit}
-use Rattle.foz_archive.specs.Refusal.{IsRefusedBy, HasMagic, IsTooLong}
-use Rattle.foz_archive.proofs.Fronts.{magic_of_header, six_of_header}
+use Rattle.foz_entry.specs.Limits.{end_limit}
+use Rattle.foz_archive.specs.Reading.{Stand, Holds, HasHeader, IsReadingAs, is_clean, is_one_of}
+use Rattle.foz_archive.specs.Refusal.{IsRefusedAs, IsTooLong}
 
 abbrev made : ℕ → Cut → List ℕ → Entry
 made offset head payload = record { offset = offset; head = head; payload = payload }
@@ -39,48 +39,49 @@ Holds-unique file ds es (inr p) (inr q) = (Stand-unique 16 (drop 16 file) ds es 
 abbrev reading : List Entry → ℕ → ℕ → Bool → Scanned
 reading entries end len clean = record { entries = entries; end = end; length = len; clean = clean }
 
--- a file has at most one reading
-pub IsReading-unique : (file : List ℕ) (r s : Scanned) → IsReading file r → IsReading file s → r ≡ s
-IsReading-unique file r s p q =
-    let same = Stand-unique 16 (drop 16 file) r.entries s.entries r.end s.end p.accepted.reads.stand q.accepted.reads.stand in
-    ap (λ (x : List Entry). reading x r.end r.length r.clean) same.0
-    ∙ ap (λ (x : ℕ). reading s.entries x r.length r.clean) same.1
-    ∙ ap (λ (x : ℕ). reading s.entries s.end x r.clean) (p.length ∙ sym q.length)
-    ∙ ap (λ (x : Bool). reading s.entries s.end s.length x) (p.clean ∙ ap (λ (n : ℕ). is_clean (drop n file)) same.1 ∙ sym q.clean)
+module _ (versions file : List ℕ) where
+  -- a file has at most one reading
+  pub IsReadingAs-unique : (r s : Scanned) → IsReadingAs versions file r → IsReadingAs versions file s → r ≡ s
+  IsReadingAs-unique r s p q =
+      let same = Stand-unique 16 (drop 16 file) r.entries s.entries r.end s.end p.accepted.reads.stand q.accepted.reads.stand in
+      ap (λ (x : List Entry). reading x r.end r.length r.clean) same.0
+      ∙ ap (λ (x : ℕ). reading s.entries x r.length r.clean) same.1
+      ∙ ap (λ (x : ℕ). reading s.entries s.end x r.clean) (p.length ∙ sym q.length)
+      ∙ ap (λ (x : Bool). reading s.entries s.end s.length x) (p.clean ∙ ap (λ (n : ℕ). is_clean (drop n file)) same.1 ∙ sym q.clean)
 
--- a file that begins with a header of version 6 is refused for neither
-no_bad_header : (file : List ℕ) (version : ℕ) → take 16 file ≡ header → HasMagic file → version ≡ get_or file 15 0 → version ≢ 6 → ⊥
-no_bad_header file version begins has at other = other (at ∙ six_of_header file begins)
+  -- a file that begins with a header isn't refused for it
+  no_bad_header : (version : ℕ) → HasHeader versions file → version ≡ get_or file 15 0 → is_one_of versions version ≡ false → ⊥
+  no_bad_header version begins at other = absurd (let known = begins.known in let here = ap (is_one_of versions) at in cc)
 
--- a row of entries doesn't end below the limit and above it
-too_long_of : (file : List ℕ) (len : ℕ) (entries : List Entry) (end : ℕ) → length file ≤ end_limit + 1 → Stand 16 (drop 16 file) entries end → end ≤ end_limit → IsTooLong file len → ⊥
-too_long_of file len entries end short stand near too_long = elim too_long.long [
-  | inl long ↦ omega (arith, long, short)
-  | inr (row, above) ↦ omega (arith, above, near, (Stand-unique 16 (drop 16 file) entries row.entries end row.end stand row.stand).1)
-]
+  -- a row of entries doesn't end below the limit and above it
+  too_long_of : (len : ℕ) (entries : List Entry) (end : ℕ) → length file ≤ end_limit + 1 → Stand 16 (drop 16 file) entries end → end ≤ end_limit → IsTooLong versions file len → ⊥
+  too_long_of len entries end short stand near too_long = elim too_long.long [
+    | inl long ↦ omega (arith, long, short)
+    | inr (row, above) ↦ omega (arith, above, near, (Stand-unique 16 (drop 16 file) entries row.entries end row.end stand row.stand).1)
+  ]
 
-pub never_both : (file : List ℕ) (scanned : Scanned) (error : ArchiveError) → IsReading file scanned → IsRefusedBy file error → ⊥
-never_both file scanned (BadMagic len bytes) r bad = bad.no_magic (magic_of_header file r.accepted.reads.begins)
-never_both file scanned (BadVersion version) r bad = no_bad_header file version r.accepted.reads.begins bad.has_magic bad.version_is bad.other
-never_both file scanned (TooLong len) r bad = too_long_of file len scanned.entries scanned.end r.accepted.short r.accepted.reads.stand r.accepted.near bad
-never_both file scanned TooMany r bad =
-    omega (arith, bad.many, r.accepted.few, ap (λ (es : List Entry). length es) (Stand-unique 16 (drop 16 file) scanned.entries bad.row.entries scanned.end bad.row.end r.accepted.reads.stand bad.row.stand).0)
+  pub never_both : (scanned : Scanned) (error : ArchiveError) → IsReadingAs versions file scanned → IsRefusedAs versions file error → ⊥
+  never_both scanned (BadMagic len bytes) r bad = bad.no_magic r.accepted.reads.begins.has_magic
+  never_both scanned (BadVersion version) r bad = no_bad_header version r.accepted.reads.begins bad.version_is bad.other
+  never_both scanned (TooLong len) r bad = too_long_of len scanned.entries scanned.end r.accepted.short r.accepted.reads.stand r.accepted.near bad
+  never_both scanned TooMany r bad =
+      omega (arith, bad.many, r.accepted.few, ap (λ (es : List Entry). length es) (Stand-unique 16 (drop 16 file) scanned.entries bad.standing.entries scanned.end bad.standing.end r.accepted.reads.stand bad.standing.stand).0)
 
--- a file is refused for at most one reason
-pub IsRefusedBy-unique : (file : List ℕ) (d e : ArchiveError) → IsRefusedBy file d → IsRefusedBy file e → d ≡ e
-IsRefusedBy-unique file (BadMagic len bytes) (BadMagic len' bytes') p q = λ i. BadMagic ((p.len_is ∙ sym q.len_is) i) ((p.bytes_are ∙ sym q.bytes_are) i)
-IsRefusedBy-unique file (BadMagic len bytes) (BadVersion version) p q = absurd (p.no_magic q.has_magic)
-IsRefusedBy-unique file (BadMagic len bytes) (TooLong len') p q = absurd (p.no_magic (magic_of_header file q.begins))
-IsRefusedBy-unique file (BadMagic len bytes) TooMany p q = absurd (p.no_magic (magic_of_header file q.begins))
-IsRefusedBy-unique file (BadVersion version) (BadMagic len bytes) p q = absurd (q.no_magic p.has_magic)
-IsRefusedBy-unique file (BadVersion version) (BadVersion version') p q = ap BadVersion (p.version_is ∙ sym q.version_is)
-IsRefusedBy-unique file (BadVersion version) (TooLong len) p q = absurd (no_bad_header file version q.begins p.has_magic p.version_is p.other)
-IsRefusedBy-unique file (BadVersion version) TooMany p q = absurd (no_bad_header file version q.begins p.has_magic p.version_is p.other)
-IsRefusedBy-unique file (TooLong len) (BadMagic len' bytes) p q = absurd (q.no_magic (magic_of_header file p.begins))
-IsRefusedBy-unique file (TooLong len) (BadVersion version) p q = absurd (no_bad_header file version p.begins q.has_magic q.version_is q.other)
-IsRefusedBy-unique file (TooLong len) (TooLong len') p q = ap TooLong (p.len_is ∙ sym q.len_is)
-IsRefusedBy-unique file (TooLong len) TooMany p q = absurd (too_long_of file len q.row.entries q.row.end q.short q.row.stand q.near p)
-IsRefusedBy-unique file TooMany (BadMagic len bytes) p q = absurd (q.no_magic (magic_of_header file p.begins))
-IsRefusedBy-unique file TooMany (BadVersion version) p q = absurd (no_bad_header file version p.begins q.has_magic q.version_is q.other)
-IsRefusedBy-unique file TooMany (TooLong len) p q = absurd (too_long_of file len p.row.entries p.row.end p.short p.row.stand p.near q)
-IsRefusedBy-unique file TooMany TooMany p q = refl
+  -- a file is refused for at most one reason
+  pub IsRefusedAs-unique : (d e : ArchiveError) → IsRefusedAs versions file d → IsRefusedAs versions file e → d ≡ e
+  IsRefusedAs-unique (BadMagic len bytes) (BadMagic len' bytes') p q = λ i. BadMagic ((p.len_is ∙ sym q.len_is) i) ((p.bytes_are ∙ sym q.bytes_are) i)
+  IsRefusedAs-unique (BadMagic len bytes) (BadVersion version) p q = absurd (p.no_magic q.has_magic)
+  IsRefusedAs-unique (BadMagic len bytes) (TooLong len') p q = absurd (p.no_magic q.begins.has_magic)
+  IsRefusedAs-unique (BadMagic len bytes) TooMany p q = absurd (p.no_magic q.begins.has_magic)
+  IsRefusedAs-unique (BadVersion version) (BadMagic len bytes) p q = absurd (q.no_magic p.has_magic)
+  IsRefusedAs-unique (BadVersion version) (BadVersion version') p q = ap BadVersion (p.version_is ∙ sym q.version_is)
+  IsRefusedAs-unique (BadVersion version) (TooLong len) p q = absurd (no_bad_header version q.begins p.version_is p.other)
+  IsRefusedAs-unique (BadVersion version) TooMany p q = absurd (no_bad_header version q.begins p.version_is p.other)
+  IsRefusedAs-unique (TooLong len) (BadMagic len' bytes) p q = absurd (q.no_magic p.begins.has_magic)
+  IsRefusedAs-unique (TooLong len) (BadVersion version) p q = absurd (no_bad_header version p.begins q.version_is q.other)
+  IsRefusedAs-unique (TooLong len) (TooLong len') p q = ap TooLong (p.len_is ∙ sym q.len_is)
+  IsRefusedAs-unique (TooLong len) TooMany p q = absurd (too_long_of len q.standing.entries q.standing.end q.short q.standing.stand q.near p)
+  IsRefusedAs-unique TooMany (BadMagic len bytes) p q = absurd (q.no_magic p.begins.has_magic)
+  IsRefusedAs-unique TooMany (BadVersion version) p q = absurd (no_bad_header version p.begins q.version_is q.other)
+  IsRefusedAs-unique TooMany (TooLong len) p q = absurd (too_long_of len p.standing.entries p.standing.end p.short p.standing.stand p.near q)
+  IsRefusedAs-unique TooMany TooMany p q = refl

@@ -1,17 +1,10 @@
 -- What a push does, and why it is refused.
-use Rattle.std.specs.Prelude.{◌≡◌, ℕ, ◌+◌, ◌<◌, ◌≤◌, List, [], ◌∷◌, ◌++◌}
-use Rattle.foz_words.specs.declared.key.Key.{Key}
+use Rattle.std.specs.Prelude.{◌≡◌, ℕ, ◌+◌, ◌<◌, ◌≤◌, [], ◌∷◌, ◌++◌}
 use Rattle.foz_entry.specs.declared.cut.Entry.{Entry}
-use Rattle.foz_entry.specs.Damage.{payload_limit}
-use Rattle.foz_entry.specs.Spelling.{head_of}
-use Rattle.foz_archive.specs.Reading.{end_limit, count_limit}
+use Rattle.foz_entry.specs.Limits.{head_len, payload_limit, end_limit, count_limit}
 use Rattle.foz_archive.specs.Kept.{Archived}
 use Rattle.foz_archive.specs.declared.push.PushError.{PushError}
-use Rattle.foz_archive.specs.declared.push.PushError.TheVariants as errors
-
--- the undamaged entry of a key and a payload at this place
-abbrev pub entry_at : ℕ → Key → List ℕ → Entry
-entry_at place key payload = record { offset = place; head = head_of key payload; payload = payload }
+use Rattle.foz_archive.specs.declared.push.PushError.TheVariants.{TooLarge, Full, TooMany, Memory}
 
 -- the archive with one entry more, which waits
 abbrev pub with_entry : {D : Type 0} → Archived D → Entry → Archived D
@@ -27,12 +20,19 @@ with_entry archive entry = record {
 -- a new entry has room
 pub record HasRoom (end count size : ℕ) : Type 0 where
   pub small : size ≤ payload_limit
-  pub near : end + (56 + size) ≤ end_limit
+  pub near : end + (head_len + size) ≤ end_limit
   pub few : count < count_limit
 
--- why a new entry is refused: the first of these reasons, or else want of memory
+-- why a new entry has no room: the first of these reasons
+abbrev pub HasNoRoom : ℕ → ℕ → ℕ → PushError → Type 0
+HasNoRoom end count size (TooLarge is) = (is ≡ size) × (payload_limit < size)
+HasNoRoom end count size (Full at need) = (at ≡ end) × (need ≡ head_len + size) × (size ≤ payload_limit) × (end_limit < end + need)
+HasNoRoom end count size (TooMany is) = (is ≡ count) × (size ≤ payload_limit) × (end + (head_len + size) ≤ end_limit) × (count_limit ≤ count)
+HasNoRoom end count size Memory = ⊥
+
+-- why a new entry is refused: it has no room, or else there was no memory
 abbrev pub IsRefusal : ℕ → ℕ → ℕ → PushError → Type 0
-IsRefusal end count size (errors.TooLarge is) = (is ≡ size) × (payload_limit < size)
-IsRefusal end count size (errors.Full at need) = (at ≡ end) × (need ≡ 56 + size) × (size ≤ payload_limit) × (end_limit < end + need)
-IsRefusal end count size (errors.TooMany is) = (is ≡ count) × (size ≤ payload_limit) × (end + (56 + size) ≤ end_limit) × (count_limit ≤ count)
-IsRefusal end count size errors.Memory = HasRoom end count size
+IsRefusal end count size (TooLarge is) = HasNoRoom end count size (TooLarge is)
+IsRefusal end count size (Full at need) = HasNoRoom end count size (Full at need)
+IsRefusal end count size (TooMany is) = HasNoRoom end count size (TooMany is)
+IsRefusal end count size Memory = HasRoom end count size

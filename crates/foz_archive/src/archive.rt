@@ -1,9 +1,9 @@
 //! An archive that is open to be written.
-ghost use Rattle.std.specs.Prelude.{◌≡◌, ◌⊎◌, ◌+◌, ◌-◌, ◌<◌, ◌≤◌, [], ◌∷◌, true, false, List, ℕ, length, take, IfOk, OnOk, OnErr, IsOk};
+ghost use Rattle.std.specs.Prelude.{◌≡◌, ◌⊎◌, ◌≤◌, true, false, length, take, IfOk, OnOk, OnErr, IsOk};
 ghost use Rattle.disk_model.specs.Disk.{LeavesOnly};
 ghost use Rattle.disk_model.specs.Faults.{HasCause};
-ghost use Rattle.foz_archive.specs.Reading.{Holds, end_limit, count_limit};
-ghost use Rattle.foz_archive.specs.Kept.{Archived, IsSettled};
+ghost use Rattle.foz_archive.specs.Reading.{Holds, SomeFileHolds};
+ghost use Rattle.foz_archive.specs.Kept.{IsSettled};
 
 use disk_model::Disk;
 use foz_entry::Entry;
@@ -18,12 +18,13 @@ pub struct Archive<D: Disk> {
     pub(crate) entries: Row<Entry>,
     pub(crate) flushed: u32,
 
-    // The bytes of the entries that wait, and behind them the gate that is to close the file.
+    // The bytes of the entries that wait, and after them the gate that is to close the file.
     pub(crate) batch: Vec<u8>,
 }
 
 impl<D: Disk> Model for Archive<D> {
     ghost use Rattle.std.specs.Prelude.{◌≡◌, ◌+◌, ◌-◌, false, length, take};
+    ghost use Rattle.foz_archive.specs.Reading.{SomeFileHolds};
     ghost use Rattle.foz_archive.specs.Kept.{Archived, IsSettled, IsWaiting};
 
     ghost Value = { Archived D };
@@ -39,14 +40,15 @@ impl<D: Disk> Model for Archive<D> {
 
     ghost invariant = { λ archive. (archive.gate.broken ≡ false → IsSettled D.tells_content D.tells_images (D.content archive.gate.disk) (D.history archive.gate.disk)
         (take archive.flushed archive.entries) archive.gate.end)
-        × IsWaiting archive.gate.end archive.batch.items archive.entries archive.flushed };
+        × IsWaiting archive.gate.end archive.batch.items archive.entries archive.flushed
+        × SomeFileHolds archive.entries (archive.gate.end + (length archive.batch.items - 1)) };
 }
 
 impl<D: Disk> Archive<D> {
     /// All entries in file order, and those that wait last.
     pub fn entries(&self) -> &[Entry]
         ensures all { result.now ≡ self.now.entries }
-        ensures few { length self.now.entries ≤ count_limit }
+        ensures some_file { SomeFileHolds self.now.entries self.now.end }
     {
         self.entries.as_slice()
     }
@@ -62,13 +64,13 @@ impl<D: Disk> Archive<D> {
     /// Where all entries end, also those that wait.
     pub fn end(&self) -> u64
         ensures end { result ≡ self.now.end }
-        ensures near { self.now.end ≤ end_limit }
+        ensures some_file { SomeFileHolds self.now.entries self.now.end }
     {
         self.gate.end() + (self.batch.len() as u64 - 1)
     }
 
     /// Did a commit fail? Then the file must be opened again. Otherwise the flushed entries, and no others, stand in the
-    /// file, a closed gate stands behind them, and nothing is pending.
+    /// file, a closed gate stands after them, and nothing is pending.
     pub fn is_broken(&self) -> bool
         ensures broken { result ≡ self.now.broken }
         ensures settled { self.now.broken ≡ false → IsSettled D.tells_content D.tells_images (D.content self.now.disk) (D.history self.now.disk) (take self.now.flushed self.now.entries) self.now.flushed_end }
@@ -96,7 +98,7 @@ impl<D: Disk> Archive<D> {
         ensures settled { OnOk result (IsSettled D.tells_content D.tells_images (D.content self.new.disk) (D.history self.new.disk) self.new.entries self.new.end) }
         ensures idle { self.old.flushed ≡ length self.old.entries → IsOk result × (self.new ≡ self.old) }
 
-        ensures any_moment { D.tells_images → LeavesOnly (D.history self.old.disk) (D.history self.new.disk) 4
+        ensures any_moment { D.tells_images → LeavesOnly (D.history self.old.disk) (D.history self.new.disk)
             (λ bytes. Holds bytes (take self.old.flushed self.old.entries) ⊎ Holds bytes self.old.entries) }
         ensures cause { HasCause (D.faults self.old.disk) (D.faults self.new.disk) result }
     {

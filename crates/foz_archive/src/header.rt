@@ -1,15 +1,19 @@
 //! The sixteen bytes that an archive begins with.
 ghost use Rattle.std.specs.Prelude.{◌≡◌, ◌≤◌, ℕ, List, length, take, IfSome, IfNone, IsTrue, ◌↔◌};
-ghost use Rattle.foz_archive.specs.Reading.{header};
-ghost use Rattle.foz_archive.specs.Refusal.{HasMagic, first_bytes, IsRefusedBy};
+ghost use Rattle.foz_entry.specs.Limits.{header_len};
+ghost use Rattle.foz_archive.specs.Reading.{HasMagic, HasHeader};
+ghost use Rattle.foz_archive.specs.Refusal.{first_bytes, IsRefusedAs};
 
 use crate::refusal::ArchiveError;
+use foz_entry::HEADER_LEN;
 
 const MAGIC: [u8; 15] = *b"\x81FOSSILIZEDB\0\0\0";
 
-const VERSION: u8 = 6;
+/// The versions that are read.
+pub(crate) const READING: [u8; 1] = [6];
 
-pub(crate) const HEADER_LEN: usize = 16;
+/// The version that is written. Entries are added to no other.
+pub(crate) const WRITING: [u8; 1] = [6];
 
 /// Do these bytes begin with a header, of any version?
 #[tactic(auto, unfolding(crate::specs::Reading::magic))]
@@ -23,18 +27,18 @@ fn has_magic(bytes: &[u8]) -> bool
 fn first_bytes(bytes: &[u8]) -> [u8; 16]
     ensures { result ≡ first_bytes bytes.now }
 {
-    let mut first = [0; 16];
-    for place in 0..bytes.len().min(16) {
+    let mut first = [0; HEADER_LEN];
+    for place in 0..bytes.len().min(HEADER_LEN) {
         first[place] = bytes[place];
     }
     first
 }
 
-/// Why a file of this length that begins with this front is refused for its header, if it is. The front is the whole
-/// header, or the whole file where that is shorter.
-pub(crate) fn header_refusal(len: usize, front: &[u8]) -> Option<ArchiveError>
-    ensures refused { IfSome result (λ error. (file : List ℕ) → length file ≡ len → take 16 file ≡ front.now → IsRefusedBy file error) }
-    ensures good { IfNone result (take 16 front.now ≡ header) }
+/// Why a file of this length that begins with this front is refused for its header, if it is, where these versions are
+/// accepted. The front is the whole header, or the whole file where that is shorter.
+pub(crate) fn header_refusal(versions: &[u8], len: usize, front: &[u8]) -> Option<ArchiveError>
+    ensures refused { IfSome result (λ error. (file : List ℕ) → length file ≡ len → take header_len file ≡ front.now → IsRefusedAs versions.now file error) }
+    ensures good { IfNone result (HasHeader versions.now front.now) }
 {
     if !has_magic(front) {
         return Some(ArchiveError::BadMagic {
@@ -43,7 +47,7 @@ pub(crate) fn header_refusal(len: usize, front: &[u8]) -> Option<ArchiveError>
         });
     }
     let v = front[15];
-    if v == VERSION {
+    if versions.contains(&v) {
         None
     } else {
         Some(ArchiveError::BadVersion { v })

@@ -11,8 +11,8 @@ mod refusal;
 mod scanned;
 
 pub use archive::Archive;
-pub use laws::{pushed_entries_are_undamaged, readings_are_unique};
-pub use opening::{OpenCause, OpenRefused};
+pub use laws::{entries_are_bounded, pushed_entries_are_undamaged, readings_are_unique};
+pub use opening::{OpenCause, OpenRefused, Opening};
 pub use push::{PushError, fits};
 pub use read::read_disk;
 pub use refusal::{ArchiveError, ReadError, ScanError};

@@ -7,10 +7,11 @@ use std::alloc::AllocError;
 pub enum ArchiveError {
     /// It doesn't begin with a header. Of a file with fewer than 16 bytes the missing ones are 0 here.
     BadMagic { len: usize, bytes: [u8; 16] },
+    /// Its version is none of those that are read, or not the one to which entries are added.
     BadVersion { v: u8 },
-    /// It is longer than 268,435,457 bytes, or its entries end above 268,435,456.
+    /// Its entries end above [`foz_entry::END_LIMIT`], or more than one byte of it stands above that.
     TooLong { len: u64 },
-    /// More than 1,048,576 whole entries stand in a row.
+    /// More than [`foz_entry::COUNT_LIMIT`] whole entries stand in a row.
     TooMany,
 }
 

@@ -1,27 +1,19 @@
 //! The reading of a whole file.
-ghost use Rattle.std.specs.Prelude.{◌≡◌, ◌+◌, ◌≤◌, ◌<◌, ◌^◌, ℕ, List, length, drop, IfOk, IfErr};
+ghost use Rattle.std.specs.Prelude.{◌≡◌, ◌+◌, ◌≤◌, ◌<◌, ◌^◌, ℕ, List, length, IfOk, IfErr};
+ghost use Rattle.foz_entry.specs.Limits.{header_len};
 ghost use Rattle.foz_entry.specs.declared.cut.Entry.{Entry};
-ghost use Rattle.foz_archive.specs.declared.scanned.Scanned.{Scanned};
-ghost use Rattle.foz_archive.specs.Reading.{Stand, is_clean, IsReading, IsBounded};
-ghost use Rattle.foz_archive.specs.Refusal.{IsUnread};
+ghost use Rattle.foz_archive.specs.Reading.{Stand, is_clean, IsReading, IsReadingAs};
+ghost use Rattle.foz_archive.specs.Refusal.{IsUnread, IsUnreadAs};
 ghost use Rattle.foz_archive.specs.Found.{IsFound};
 
-use crate::header::{HEADER_LEN, header_refusal};
+use crate::header::{READING, header_refusal};
 use crate::refusal::{ArchiveError, ScanError};
-use foz_entry::{Entry, first_entry};
+use foz_entry::{COUNT_LIMIT, END_LIMIT, Entry, HEAD_LEN, HEADER_LEN, first_entry};
 use foz_words::{NoMemory, Row};
 use std::alloc::Global;
 
-const HEAD_LEN: usize = 56;
-
-/// The last place where the entries of an archive may end. A file may have one byte more, the gate.
-pub(crate) const END_LIMIT: usize = 268_435_456;
-
-/// The most entries of an archive.
-pub(crate) const COUNT_LIMIT: usize = 1_048_576;
-
 /// What stands in a file: its whole entries in a row, where they end and how long the file is, in bytes, and whether
-/// nothing stands behind them but maybe the byte 0 that closes a file.
+/// nothing stands after them but maybe the byte 0 that closes a file.
 #[derive(Debug, Drop)]
 pub struct Scanned {
     pub entries: Row<Entry>,
@@ -58,16 +50,16 @@ fn end_of_row(bytes: &[u8], from: usize) -> usize
     place
 }
 
-/// Is what stands behind the entries nothing, or the byte that closes a file?
+/// Is what stands after the entries nothing, or the byte that closes a file?
 fn is_clean(rest: &[u8]) -> bool
     ensures { result ≡ is_clean rest.now }
 {
     matches!(rest, [] | [0])
 }
 
-/// The whole entries in a row behind the header. Their payloads are copied here, once.
+/// The whole entries in a row after the header. Their payloads are copied here, once.
 fn entries_of(alloc: Global, bytes: &[u8]) -> Result<Found, NoMemory>
-    requires long { 16 ≤ length bytes.now }
+    requires long { header_len ≤ length bytes.now }
     requires short { length bytes.now < 2 ^ 62 }
     ensures { IfOk result (λ found. IsFound bytes.now found) }
 {
@@ -75,7 +67,7 @@ fn entries_of(alloc: Global, bytes: &[u8]) -> Result<Found, NoMemory>
     let mut place = HEADER_LEN;
     let mut rest = &bytes[HEADER_LEN..];
     while let Some(head) = first_entry(rest) {
-        if entries.len() == COUNT_LIMIT {
+        if entries.len() == COUNT_LIMIT as usize {
             let end = end_of_row(rest, place);
             return Ok(Found::TooMany { end });
         }
@@ -100,16 +92,23 @@ fn entries_of(alloc: Global, bytes: &[u8]) -> Result<Found, NoMemory>
 /// What stands in a file with these bytes. A file has at most one reading or one reason why it is refused.
 pub fn scan(alloc: Global, bytes: &[u8]) -> Result<Scanned, ScanError>
     ensures read { IfOk result (λ scanned. IsReading bytes.now scanned) }
-    ensures bounded { IfOk result IsBounded }
     ensures unread { IfErr result (λ error. IsUnread bytes.now error) }
 {
+    scan_as(alloc, &READING, bytes)
+}
+
+/// The same, where these versions are accepted.
+pub(crate) fn scan_as(alloc: Global, versions: &[u8], bytes: &[u8]) -> Result<Scanned, ScanError>
+    ensures read { IfOk result (λ scanned. IsReadingAs versions.now bytes.now scanned) }
+    ensures unread { IfErr result (λ error. IsUnreadAs versions.now bytes.now error) }
+{
     let front = &bytes[..bytes.len().min(HEADER_LEN)];
-    if let Some(error) = header_refusal(bytes.len(), front) {
+    if let Some(error) = header_refusal(versions, bytes.len(), front) {
         return Err(ScanError::Archive(error));
     }
     let length = bytes.len() as u64;
     let too_long = ScanError::Archive(ArchiveError::TooLong { len: length });
-    if bytes.len() > END_LIMIT + 1 {
+    if length > END_LIMIT + 1 {
         return Err(too_long);
     }
     match entries_of(alloc, bytes)? {
@@ -118,18 +117,19 @@ pub fn scan(alloc: Global, bytes: &[u8]) -> Result<Scanned, ScanError>
             end,
             clean,
         } => {
+            let end = end as u64;
             if end > END_LIMIT {
                 return Err(too_long);
             }
             Ok(Scanned {
                 entries,
-                end: end as u64,
+                end,
                 length,
                 clean,
             })
         }
         Found::TooMany { end } => {
-            if end > END_LIMIT {
+            if end as u64 > END_LIMIT {
                 return Err(too_long);
             }
             Err(ScanError::Archive(ArchiveError::TooMany))

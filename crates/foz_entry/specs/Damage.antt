@@ -3,11 +3,8 @@ use Rattle.std.specs.Prelude.{ℕ, ◌==◌, ◌||◌, nat_le, if◌then◌else�
 use Rattle.foz_crc.specs.Crc32.{crc32_of}
 use Rattle.foz_entry.specs.declared.cut.Cut.{Cut}
 use Rattle.foz_entry.specs.declared.damage.EntryCause.{EntryCause}
+use Rattle.foz_entry.specs.Limits.{payload_limit}
 use Rattle.foz_entry.specs.declared.damage.EntryCause.TheVariants.{Deflate, BadFormat, TooLarge, SizeDiffers, BadChecksum}
-
--- the longest payload of an undamaged entry
-abbrev pub payload_limit : ℕ
-payload_limit = 16_777_216
 
 -- a checksum of 0 says nothing
 abbrev pub checksum_damage : ℕ → ℕ → Option EntryCause

@@ -3,10 +3,8 @@ ghost use Rattle.foz_crc.specs.Crc32.{crc32_of};
 ghost use Rattle.foz_entry.specs.Damage.{damage, checksum_damage, ok_unless};
 
 use crate::cut::Cut;
+use crate::limits::PAYLOAD_LIMIT;
 use foz_crc::crc32;
-
-/// The longest payload of an undamaged entry, in bytes.
-pub const PAYLOAD_LIMIT: u32 = 16_777_216;
 
 /// The format of a payload that is stored as it is.
 pub(crate) const STORED: u32 = 1;
@@ -19,7 +17,8 @@ const DEFLATE: u32 = 2;
 pub enum EntryCause {
     Deflate,
     BadFormat { n: u32 },
-    TooLarge { size: u32 },
+    /// The payload has so many bytes, more than [`PAYLOAD_LIMIT`].
+    TooLarge { size: u64 },
     SizeDiffers { a: u32, b: u32 },
     BadChecksum { stated: u32, found: u32 },
 }
@@ -35,7 +34,9 @@ pub fn check(head: &Cut, payload: &[u8]) -> Result<(), EntryCause>
         return Err(EntryCause::BadFormat { n: head.format });
     }
     if head.size > PAYLOAD_LIMIT {
-        return Err(EntryCause::TooLarge { size: head.size });
+        return Err(EntryCause::TooLarge {
+            size: u64::from(head.size),
+        });
     }
     if head.size != head.uncompressed {
         return Err(EntryCause::SizeDiffers {

@@ -1,14 +1,13 @@
 -- What the steps of a book that isn't broken do to its entries.
-use Rattle.std.proofs.Common.{◌≡◌, false, List, [], ℕ, Some, refl, sym, ap, ◌∙◌, subst}
+use Rattle.std.proofs.Common.{◌≡◌, false, List, ℕ, Some, refl, ap, ◌∙◌}
 use Rattle.foz_words.specs.declared.key.Key.{Key}
-use Rattle.foz_entry.specs.declared.cut.Entry.{Entry}
-use Rattle.record_words.specs.declared.note.RecordCall.TheVariants.{Record, Flush}
+use Rattle.record_words.specs.declared.note.RecordCall.TheVariants.{Record}
 use Rattle.record_words.specs.declared.note.RecordReply.{RecordReply}
 use Rattle.record_words.specs.declared.note.RecordReply.TheVariants.{New, Known, Collision, TooLarge, Full, TooMany, Flushed, DiskFault, Broken}
 use Rattle.record_words.specs.declared.state.RecorderState.{RecorderState}
-use Rattle.record_words.specs.Recorder.{reply_of, record_reply, after}
+use Rattle.record_words.specs.Recorder.{reply_of, after}
 use Rattle.record_words.specs.Alone.{grown_by, after_record}
-use Rattle.record_dedup.specs.Steps.{IsStep, IsFlushStep}
+use Rattle.record_dedup.specs.Steps.{IsStep}
 
 after_entries : (s : RecorderState) (key : Key) (payload : List ℕ) (reply : RecordReply) → (after s (Record key) reply payload).entries ≡ grown_by reply s.entries key payload
 after_entries s key payload (New index) = refl
@@ -26,15 +25,3 @@ pub step_replies : (s t : RecorderState) (key : Key) (payload : List ℕ) (reply
 step_replies s t key payload reply whole step =
     let is : reply ≡ reply_of s.entries key payload = rw whole at step.0 in
     (is, ap (λ (z : RecorderState). z.entries) step.1 ∙ (after_entries s key payload reply ∙ ap (λ (r : RecordReply). grown_by r s.entries key payload) is))
-
--- a flush adds nothing
-pub flush_keeps : (s t : RecorderState) (reply : RecordReply) → IsFlushStep s reply t → t.entries ≡ s.entries
-flush_keeps s t (Flushed count) step = ap (λ (z : RecorderState). z.entries) step.1
-flush_keeps s t DiskFault step = ap (λ (z : RecorderState). z.entries) step.1
-flush_keeps s t Broken step = ap (λ (z : RecorderState). z.entries) step.1
-flush_keeps s t (New index) step = absurd step.0
-flush_keeps s t (Known index) step = absurd step.0
-flush_keeps s t (Collision index) step = absurd step.0
-flush_keeps s t (TooLarge size) step = absurd step.0
-flush_keeps s t (Full end need) step = absurd step.0
-flush_keeps s t (TooMany count) step = absurd step.0

@@ -1,5 +1,3 @@
-pub mod Indexed
-pub mod Ends
 pub mod Kept
 pub mod Answers
 pub mod Alone

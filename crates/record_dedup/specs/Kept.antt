@@ -3,12 +3,12 @@ use Rattle.std.specs.Prelude.{◌≡◌, ◌⊎◌, ℕ, ◌+◌, ◌≤◌, Boo
 use Rattle.disk_model.specs.Disk.{History, latest, IsImage, NothingPending, MightHaveLeft, GoesOn}
 use Rattle.disk_model.specs.Faults.{Rose}
 use Rattle.foz_entry.specs.declared.cut.Entry.{Entry}
+use Rattle.foz_entry.specs.Entries.{end_of}
 use Rattle.gate_append.specs.Gate.{IsClosedAt}
 use Rattle.foz_archive.specs.Reading.{Holds, IsAccepted}
 use Rattle.foz_archive.specs.Kept.{Archived}
 use Rattle.foz_archive.specs.declared.opening.OpenRefused.{OpenRefused}
 use Rattle.record_words.specs.declared.state.RecorderState.{RecorderState}
-use Rattle.record_words.specs.Entries.{end_of}
 
 -- a book as its callers see it
 pub record Booked (D : Type 0) : Type 0 where
@@ -42,8 +42,8 @@ pub record IsArchiveOf (bytes : List ℕ) (entries : List Entry) : Type 0 where
   pub accepted : IsAccepted bytes entries end
   pub gate : IsClosedAt end bytes
 
--- where told: the file is an archive of these entries, one byte stands behind them, and nothing is pending
-pub record IsAtRest (tells_content tells_images : Type 0) (content : List ℕ) (history : History) (entries : List Entry) : Type 0 where
+-- where told: the file is an archive of these entries, one byte stands after them, and nothing is pending
+pub record IsWritten (tells_content tells_images : Type 0) (content : List ℕ) (history : History) (entries : List Entry) : Type 0 where
   pub archive : tells_content → IsArchiveOf content entries
   pub held : tells_content → Holds content entries
   pub long : tells_content → length content ≡ end_of entries + 1
@@ -55,7 +55,7 @@ HoldsSome book bytes = (n : ℕ) × (book.opened ≤ n) × (n ≤ length book.en
 
 -- What is known of each book. Here `content`, `history` and `faults` are what a disk tells.
 pub record IsKept {D : Type 0} (tells_content tells_images : Type 0) (content : D → List ℕ) (history : D → History) (faults : D → ℕ) (book : Booked D) : Type 0 where
-  pub at_rest : book.broken ≡ false → IsAtRest tells_content tells_images (content book.disk) (history book.disk) (take book.flushed book.entries)
+  pub written : book.broken ≡ false → IsWritten tells_content tells_images (content book.disk) (history book.disk) (take book.flushed book.entries)
   pub opened : book.opened ≤ book.flushed
   pub flushed : book.flushed ≤ length book.entries
   -- the disk failed since the opening began, if the book is broken

@@ -1,3 +1,2 @@
-pub mod Indexed
 pub mod Kept
 pub mod Steps

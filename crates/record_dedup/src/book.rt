@@ -1,31 +1,29 @@
-ghost use Rattle.std.specs.Prelude.{◌≡◌, ◌⊎◌, ◌≤◌, ◌<◌, ◌+◌, ℕ, List, length, take, OnOk, OnErr, IfOk, IfErr, None, true, false, bytes_eq, if◌then◌else◌};
+ghost use Rattle.std.specs.Prelude.{◌≡◌, ◌≢◌, ◌⊎◌, ◌≤◌, ◌<◌, ◌∷◌, ◌++◌, [], length, take, OnOk, OnErr, IfOk, IfErr, None, true, false, bytes_eq, if◌then◌else◌};
 ghost use Rattle.disk_model.specs.Disk.{LeavesOnly, IsImage, latest};
 ghost use Rattle.disk_model.specs.Faults.{Rose};
-ghost use Rattle.foz_entry.specs.Damage.{payload_limit};
+ghost use Rattle.foz_entry.specs.Entries.{end_of, entry_of};
 ghost use Rattle.foz_archive.specs.Reading.{Holds};
 ghost use Rattle.foz_archive.specs.Opened.{HoldAlike, IsClosedArchive, IsUnopened};
+ghost use Rattle.foz_archive.specs.Pushed.{HasRoom};
 ghost use Rattle.record_words.specs.declared.note.RecordReply.TheVariants.{New};
 ghost use Rattle.record_words.specs.Entries.{holder, payload_at};
 ghost use Rattle.record_words.specs.Recorder.{record_reply};
-ghost use Rattle.record_dedup.specs.Kept.{Booked, IsAtRest, IsKept, disk_of, recorder_of};
-ghost use Rattle.record_dedup.specs.Steps.{IsStep, IsFlushStep, reply_told, flush_told};
+ghost use Rattle.record_dedup.specs.Kept.{Booked, IsWritten, IsKept, disk_of, recorder_of};
+ghost use Rattle.record_dedup.specs.Steps.{IsStep, IsFlushStep, reply_told, flush_told, too_large};
 
 use crate::ack::{Ack, FlushError, RecordError};
 use crate::index::index_of;
 use disk_model::Disk;
-use foz_archive::{Archive, OpenCause, OpenRefused};
-use foz_entry::{Entry, PAYLOAD_LIMIT};
+use foz_archive::{
+    Archive, OpenCause, OpenRefused, PushError, entries_are_bounded, readings_are_unique,
+};
+use foz_entry::Entry;
 use foz_words::{Key, NoMemory};
-use gate_append::DiskFault;
 use indexmap::IndexMap;
+use record_words::indexes_grow;
 use std::alloc::Global;
 use std::marker::Model;
 use std::snapshot::Snapshot;
-
-// The last place where entries may end, and how many may stand in an archive.
-const END_LIMIT: u64 = 268_435_456;
-
-const COUNT_LIMIT: u32 = 1_048_576;
 
 /// An archive that is written, in which each key is recorded once.
 #[derive(Drop)]
@@ -40,9 +38,9 @@ pub struct Book<D: Disk> {
 }
 
 impl<D: Disk> Model for Book<D> {
-    ghost use Rattle.std.specs.Prelude.{◌≡◌, ◌<◌, ◌≤◌, ◌^◌, length};
-    ghost use Rattle.record_words.specs.Entries.{end_of, most_entries};
-    ghost use Rattle.record_dedup.specs.Indexed.{IsIndexOf};
+    ghost use Rattle.indexmap.specs.IndexMap.{get};
+    ghost use Rattle.foz_archive.specs.Reading.{SomeFileHolds};
+    ghost use Rattle.record_words.specs.Index.{IsIndexOf};
     ghost use Rattle.record_dedup.specs.Kept.{Booked, IsKept, booked};
 
     ghost Value = { Booked D };
@@ -50,49 +48,51 @@ impl<D: Disk> Model for Book<D> {
     ghost view = { λ book. booked book.archive book.began.value book.opened };
 
     ghost invariant = { λ book. IsKept D.tells_content D.tells_images D.content D.history D.faults (booked book.archive book.began.value book.opened)
-        × (D.tells_content → (book.archive.end ≡ end_of book.archive.entries) × (length book.archive.entries ≤ most_entries))
-        × (length book.archive.entries < 2 ^ 32)
-        × IsIndexOf ⟦<Key as PartialEq>⟧.eq book.index book.archive.entries };
+        × SomeFileHolds book.archive.entries book.archive.end
+        × IsIndexOf (get ⟦<Key as PartialEq>⟧.eq book.index) book.archive.entries };
 }
 
 impl<D: Disk> Book<D> {
-    /// Opens a file as an archive, and looks up what is recorded there.
+    /// Opens a file as an archive, and looks up what is recorded there. All memory is taken before the file is mended, so
+    /// that a refusal that is no fault of the disk leaves the content as it was.
     pub fn open(alloc: Global, disk: D) -> Result<Book<D>, OpenRefused<D>>
         ensures held { D.tells_content → IfOk result (λ book. Holds (D.content disk) book.entries) }
         ensures whole { IfOk result (λ book. (book.opened ≡ length book.entries) × (book.flushed ≡ length book.entries) × (book.broken ≡ false) × (book.began ≡ disk)) }
         ensures kept { IfOk result (IsKept D.tells_content D.tells_images D.content D.history D.faults) }
         ensures refused { D.tells_content → IfErr result (λ refused. IsUnopened (D.content disk) refused.cause) }
-        ensures unchanged { D.tells_content → IfErr result (λ refused. (D.content refused.disk ≡ D.content disk) ⊎ (refused.cause ≡ OpenCause.DiskFault) ⊎ ((refused.cause ≡ OpenCause.Memory) × HoldAlike (D.content disk) (D.content refused.disk))) }
+        ensures unchanged { D.tells_content → IfErr result (λ refused. (D.content refused.disk ≡ D.content disk) ⊎ (refused.cause ≡ OpenCause.DiskFault)) }
 
         // Each image is one of those before, or holds what the content held.
-        ensures any_moment { D.tells_images → LeavesOnly (D.history disk) (D.history (disk_of result)) 9
-            (λ bytes. IsImage (latest (D.history disk)) bytes ⊎ HoldAlike (D.content disk) bytes) }
+        ensures any_moment { D.tells_images → LeavesOnly (D.history disk) (D.history (disk_of result)) (λ bytes. IsImage (latest (D.history disk)) bytes ⊎ HoldAlike (D.content disk) bytes) }
 
         // An archive that its gate closes is only read.
         ensures untouched { D.tells_content → IsClosedArchive (D.content disk) → D.content (disk_of result) ≡ D.content disk }
-        ensures only_read { D.tells_images → IsClosedArchive (D.content disk) → LeavesOnly (D.history disk) (D.history (disk_of result)) 5 (IsImage (latest (D.history disk))) }
+        ensures only_read { D.tells_images → IsClosedArchive (D.content disk) → LeavesOnly (D.history disk) (D.history (disk_of result)) (IsImage (latest (D.history disk))) }
 
         ensures later { D.faults disk ≤ D.faults (disk_of result) }
         ensures fault { IfErr result (λ refused. refused.cause ≡ OpenCause.DiskFault → Rose (D.faults disk) (D.faults refused.disk)) }
     {
+        entries_are_bounded();
+        readings_are_unique();
         let began = Snapshot::of(&disk);
-        let archive = match Archive::open(alloc, disk) {
-            Ok(archive) => archive,
-            Err(refused) => return Err(refused),
+        let opening = Archive::read(alloc, disk)?;
+        let index = match index_of(alloc, opening.entries()) {
+            Ok(index) => index,
+            Err(NoMemory) => {
+                return Err(OpenRefused {
+                    disk: opening.into_disk(),
+                    cause: OpenCause::Memory,
+                });
+            }
         };
+        let archive = opening.settle()?;
         let opened = archive.flushed();
-        match index_of(alloc, archive.entries()) {
-            Ok(index) => Ok(Book {
-                archive,
-                index,
-                began,
-                opened,
-            }),
-            Err(NoMemory) => Err(OpenRefused {
-                disk: archive.into_disk(),
-                cause: OpenCause::Memory,
-            }),
-        }
+        Ok(Book {
+            archive,
+            index,
+            began,
+            opened,
+        })
     }
 
     /// All entries in file order, and those that wait for the next flush last.
@@ -110,6 +110,14 @@ impl<D: Disk> Book<D> {
         self.archive.flushed()
     }
 
+    /// Where all entries end, also those that wait.
+    pub fn end(&self) -> u64
+        ensures { result ≡ end_of self.now.entries }
+    {
+        entries_are_bounded();
+        self.archive.end()
+    }
+
     /// The disk. Entries that wait are dropped.
     pub fn close(self) -> D
         ensures disk { result ≡ self.disk }
@@ -122,21 +130,23 @@ impl<D: Disk> Book<D> {
     /// Records a payload under a key, if none is recorded there yet. The entry waits for the next flush, and the disk
     /// isn't called. Want of memory changes nothing, and comes only in place of a new entry.
     pub fn record(&mut self, key: Key, payload: &[u8]) -> Result<Ack, RecordError>
-        ensures step { D.tells_content → IsStep (recorder_of self.old) key payload.now (reply_told result) (recorder_of self.new) }
-        ensures memory { D.tells_content → result ≡ Err RecordError.Memory → record_reply (recorder_of self.old) key payload.now ≡ New (length self.old.entries) }
+        ensures step { IsStep (recorder_of self.old) key payload.now (reply_told result) (recorder_of self.new) }
+        ensures memory { result ≡ Err RecordError.Memory → record_reply (recorder_of self.old) key payload.now ≡ New (length self.old.entries) }
         ensures rest { self.new ≡ record self.old { entries = self.new.entries } }
     {
+        entries_are_bounded();
         if self.archive.is_broken() {
             return Err(RecordError::Broken);
         }
-        let size = payload.len() as u64;
-        if size > PAYLOAD_LIMIT as u64 {
+        let room = self.archive.check_room(payload.len());
+        if let Some(size) = too_large(&room) {
             return Err(RecordError::TooLarge { size });
         }
-        match self.holder(key) {
-            Some(index) => self.compare(index, payload),
-            None => self.add(key, payload),
+        if let Some(index) = self.holder(key) {
+            return self.compare(index, payload);
         }
+        room?;
+        Ok(self.add(key, payload)?)
     }
 
     /// The place of the first undamaged entry with this key.
@@ -158,31 +168,19 @@ impl<D: Disk> Book<D> {
         }
     }
 
-    /// Adds the entry of a key that no entry holds. An `Err` changes nothing.
-    fn add(&mut self, key: Key, payload: &[u8]) -> Result<Ack, RecordError>
+    /// Adds the entry of a key that no entry holds, for which there is room. Want of memory changes nothing.
+    fn add(&mut self, key: Key, payload: &[u8]) -> Result<Ack, NoMemory>
         requires whole { self.old.broken ≡ false }
-        requires fits { length payload.now ≤ payload_limit }
         requires free { holder key self.old.entries ≡ None }
-        ensures step { D.tells_content → IsStep (recorder_of self.old) key payload.now (reply_told result) (recorder_of self.new) }
-        ensures memory { D.tells_content → result ≡ Err RecordError.Memory → record_reply (recorder_of self.old) key payload.now ≡ New (length self.old.entries) }
-        ensures rest { self.new ≡ record self.old { entries = self.new.entries } }
+        requires room { HasRoom (end_of self.old.entries) (length self.old.entries) (length payload.now) }
+        ensures added { IfOk result (λ ack. (ack ≡ Ack.New (length self.old.entries)) × (self.new ≡ record self.old { entries = self.old.entries ++ entry_of (end_of self.old.entries) key payload.now ∷ [] })) }
+        ensures unchanged { OnErr result (self.new ≡ self.old) }
     {
-        let end = self.archive.end();
-        let need = 56 + payload.len() as u64;
-        if need > END_LIMIT.saturating_sub(end) {
-            return Err(RecordError::Full { end, need });
-        }
-        let count = self.archive.entries().len() as u32;
-        if count >= COUNT_LIMIT {
-            return Err(RecordError::TooMany { count });
-        }
+        entries_are_bounded();
+        indexes_grow();
         // With room in the index, nothing can fail once the entry is added.
-        if self.index.reserve(1).is_err() {
-            return Err(RecordError::Memory);
-        }
-        let Ok(index) = self.archive.push(key, payload) else {
-            return Err(RecordError::Memory);
-        };
+        self.index.reserve(1)?;
+        let index = self.archive.push_with_room(key, payload)?;
         let Ok(_) = self.index.insert(key, index) else {
             unreachable!()
         };
@@ -193,20 +191,30 @@ impl<D: Disk> Book<D> {
     /// all of the batch or none of it. It takes no memory, and calls the disk only where entries wait.
     pub fn flush(&mut self) -> Result<u32, FlushError>
         ensures step { IsFlushStep (recorder_of self.old) (flush_told result) (recorder_of self.new) }
+        ensures entries { self.new.entries ≡ self.old.entries }
         ensures rest { (self.new.began ≡ self.old.began) × (self.new.opened ≡ self.old.opened) }
-        ensures at_rest { OnOk result (IsAtRest D.tells_content D.tells_images (D.content self.new.disk) (D.history self.new.disk) self.new.entries) }
-        ensures any_moment { D.tells_images → LeavesOnly (D.history self.old.disk) (D.history self.new.disk) 4
+        ensures written { OnOk result (IsWritten D.tells_content D.tells_images (D.content self.new.disk) (D.history self.new.disk) self.new.entries) }
+        ensures any_moment { D.tells_images → LeavesOnly (D.history self.old.disk) (D.history self.new.disk)
             (λ bytes. Holds bytes (take self.old.flushed self.old.entries) ⊎ Holds bytes self.old.entries) }
         ensures idle { (self.old.broken ≡ true) ⊎ (self.old.flushed ≡ length self.old.entries) → self.new.disk ≡ self.old.disk }
         ensures later { D.faults self.old.disk ≤ D.faults self.new.disk }
         ensures fault { result ≡ Err FlushError.DiskFault → Rose (D.faults self.old.disk) (D.faults self.new.disk) }
+        ensures no_memory { result ≢ Err FlushError.Memory }
     {
+        entries_are_bounded();
         if self.archive.is_broken() {
             return Err(FlushError::Broken);
         }
-        match self.archive.commit() {
-            Ok(count) => Ok(count),
-            Err(DiskFault) => Err(FlushError::DiskFault),
-        }
+        Ok(self.archive.commit()?)
+    }
+}
+
+/// The size of a payload that no entry may have, even one whose key is held.
+fn too_large(room: &Result<(), PushError>) -> Option<u64>
+    ensures { result ≡ too_large room.now }
+{
+    match room {
+        Err(PushError::TooLarge { size }) => Some(*size),
+        _ => None,
     }
 }

@@ -4,8 +4,10 @@
 mod ack;
 mod book;
 mod index;
+mod laws;
 #[cfg(test)]
 mod tests;
 
 pub use ack::{Ack, FlushError, RecordError, reply_told};
 pub use book::Book;
+pub use laws::steps_follow_the_entries;

@@ -39,7 +39,7 @@ module _ {Cause : Type 0} (lines : List (Line Cause)) where
     image_holds entries bytes held image = subst (λ (l : List ℕ). Holds l entries) (is_now ∙ sym (durable bytes image)) held
 
     -- an opening that was refused
-    pub opening_leaves : (new : History) → LeavesOnly old new 9 (λ bytes. IsImage (latest old) bytes ⊎ HoldAlike content bytes) → CaptureLeaves content old new lines
+    pub opening_leaves : (new : History) → LeavesOnly old new (λ bytes. IsImage (latest old) bytes ⊎ HoldAlike content bytes) → CaptureLeaves content old new lines
     opening_leaves new run = record {
       goes_on = run.goes_on;
       fronts = λ entries held. record {

@@ -6,7 +6,7 @@ use Rattle.foz_archive.specs.declared.refusal.ArchiveError.{ArchiveError}
 use Rattle.foz_archive.specs.declared.opening.OpenCause.{OpenCause}
 use Rattle.foz_archive.specs.declared.opening.OpenCause.TheVariants as open_causes
 use Rattle.foz_archive.specs.Reading.{Holds, IsNew}
-use Rattle.foz_archive.specs.Refusal.{IsRefusedBy}
+use Rattle.foz_archive.specs.Refusal.{IsRefusedToWrite}
 use Rattle.record_words.specs.Recorded.{Line}
 use Rattle.record_dedup.specs.Kept.{IsArchiveOf}
 use Rattle.record_lines.specs.declared.recording.Report.{Report}
@@ -27,7 +27,7 @@ stop_of_lines record_stops.Memory = Memory
 
 -- the content is no new file's, is refused, and stays
 pub record IsLeftRefused (before after : List ℕ) (error : ArchiveError) : Type 0 where
-  pub refused : IsRefusedBy before error
+  pub refused : IsRefusedToWrite before error
   pub not_new : ¬ IsNew before
   pub same : after ≡ before
 
@@ -36,7 +36,14 @@ abbrev pub HoldsFront : List Entry → List Entry → List ℕ → Type 0
 HoldsFront before later bytes = (n : ℕ) × (length before ≤ n) × (n ≤ length later) × Holds bytes (take n later)
 
 module _ {Cause : Type 0} where
-  -- the lines were recorded behind the entries that the content held, and it is now an archive of all of them
+  -- the report is one of these lines, recorded in order on some entries
+  pub record AreAnswered (lines : List (Line Cause)) (report : Report Cause) : Type 0 where
+    pub before : List Entry
+    pub later : List Entry
+    pub recorded : AreRecorded before lines 1 later report.answers
+    pub counted : report.entries ≡ length later
+
+  -- the lines were recorded after the entries that the content held, and it is now an archive of all of them
   pub record IsCaptured (before after : List ℕ) (lines : List (Line Cause)) (report : Report Cause) : Type 0 where
     pub entries : List Entry
     pub held : Holds before entries

@@ -1,8 +1,8 @@
 //! A capture recorded in the archive on a disk.
-ghost use Rattle.std.specs.Prelude.{◌≡◌, ◌≤◌, ◌<◌, ◌^◌, length, IsOk};
+ghost use Rattle.std.specs.Prelude.{◌≡◌, ◌≤◌, ◌<◌, ◌^◌, length, IfOk, IsOk};
 ghost use Rattle.disk_model.specs.Disk.{latest, NothingPending};
 ghost use Rattle.disk_model.specs.Faults.{Rose};
-ghost use Rattle.record_lines.specs.Capture.{CaptureEnds, CaptureLeaves, stop_of_open, stop_of_lines};
+ghost use Rattle.record_lines.specs.Capture.{AreAnswered, CaptureEnds, CaptureLeaves, stop_of_open, stop_of_lines};
 
 use crate::line::Lines;
 use crate::recording::{RecordStop, Report, record_lines};
@@ -63,6 +63,9 @@ pub fn record_capture<D: Disk, L: Lines>(
     ensures ends { D.tells_content → CaptureEnds (D.content disk) (D.content result.disk) (Rose (D.faults disk) (D.faults result.disk)) (L.rest lines.old) result.outcome }
     ensures leaves { D.tells_images → NothingPending (latest (D.history disk)) → CaptureLeaves (D.content disk) (D.history disk) (D.history result.disk) (L.rest lines.old) }
     ensures durable { D.tells_images → IsOk result.outcome → NothingPending (latest (D.history result.disk)) }
+    // Whatever the disk tells, the answers are those of one thread on some entries.
+    ensures answered { IfOk result.outcome (AreAnswered (L.rest lines.old)) }
+    ensures fault { result.outcome ≡ Err CaptureStop.DiskFault → Rose (D.faults disk) (D.faults result.disk) }
     ensures later { D.faults disk ≤ D.faults result.disk }
 {
     let mut book = match Book::open(alloc, disk) {

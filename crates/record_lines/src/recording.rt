@@ -4,7 +4,7 @@ ghost use Rattle.disk_model.specs.Faults.{Rose};
 ghost use Rattle.record_words.specs.Recorder.{reply_of};
 ghost use Rattle.record_words.specs.Alone.{after_record, entries_alone, answers_alone};
 ghost use Rattle.record_words.specs.Answered.{answered_from};
-ghost use Rattle.record_dedup.specs.Kept.{Booked, IsAtRest};
+ghost use Rattle.record_dedup.specs.Kept.{Booked, IsWritten};
 ghost use Rattle.record_lines.specs.declared.recording.RecordStop.TheVariants.{Memory};
 ghost use Rattle.record_lines.specs.Lines.{line_of};
 ghost use Rattle.record_lines.specs.Recording.{AreRecorded, IsFrontRecorded};
@@ -12,7 +12,7 @@ ghost use Rattle.record_lines.specs.Recording.{AreRecorded, IsFrontRecorded};
 use crate::line::{Lines, NextLine};
 use disk_model::Disk;
 use foz_words::{Key, NoMemory, Row};
-use record_dedup::{Book, reply_told};
+use record_dedup::{Book, FlushError, reply_told};
 use record_words::{Answered, LineAnswer, RecordReply};
 use std::alloc::Global;
 
@@ -35,6 +35,19 @@ impl From<NoMemory> for RecordStop {
     }
 }
 
+impl From<FlushError> for RecordStop {
+    ghost use Rattle.record_lines.specs.Recording.{stop_of_flush};
+
+    ghost from_gives = { λ error stop. stop ≡ stop_of_flush error };
+
+    fn from(error: FlushError) -> RecordStop {
+        match error {
+            FlushError::Broken | FlushError::DiskFault => RecordStop::DiskFault,
+            FlushError::Memory => RecordStop::Memory,
+        }
+    }
+}
+
 /// The answers to the lines of a capture that aren't skipped, and how many entries the archive has after them.
 #[derive(Debug, Drop)]
 pub struct Report<C> {
@@ -53,13 +66,13 @@ pub fn record_lines<D: Disk, L: Lines>(
     requires flushed { book.old.flushed ≡ length book.old.entries }
     requires few { length (L.rest lines.old) < 2 ^ 32 }
 
-    ensures recorded { D.tells_content → IfOk result (λ report. AreRecorded book.old.entries (L.rest lines.old) 1 book.new.entries report.answers) }
+    ensures recorded { IfOk result (λ report. AreRecorded book.old.entries (L.rest lines.old) 1 book.new.entries report.answers) }
     ensures counted { IfOk result (λ report. report.entries ≡ length book.new.entries) }
-    ensures written { OnOk result (IsAtRest D.tells_content D.tells_images (D.content book.new.disk) (D.history book.new.disk) book.new.entries) }
+    ensures written { OnOk result (IsWritten D.tells_content D.tells_images (D.content book.new.disk) (D.history book.new.disk) book.new.entries) }
 
-    // Wherever it ends, a front of the lines was recorded, and at most 64 entries wait to be written.
-    ensures front { D.tells_content → IsFrontRecorded book.old.entries (L.rest lines.old) book.new.entries }
-    ensures few_wait { D.tells_content → length book.new.entries ≤ book.new.flushed + 64 }
+    // Wherever it ends, a prefix of the lines was recorded, and at most 64 entries wait to be written.
+    ensures front { IsFrontRecorded book.old.entries (L.rest lines.old) book.new.entries }
+    ensures few_wait { length book.new.entries ≤ book.new.flushed + 64 }
 
     ensures same { (book.new.began ≡ book.old.began) × (book.new.opened ≡ book.old.opened) }
     ensures later { D.faults book.old.disk ≤ D.faults book.new.disk }
@@ -73,10 +86,8 @@ pub fn record_lines<D: Disk, L: Lines>(
         unwritten += answer(book, &mut answers, number, line)?;
         unwritten = write_full(book, unwritten)?;
     }
-    match book.flush() {
-        Ok(entries) => Ok(Report { answers, entries }),
-        Err(_) => Err(RecordStop::DiskFault),
-    }
+    let entries = book.flush()?;
+    Ok(Report { answers, entries })
 }
 
 /// Records a line, if it is read, and adds its answer to the others. Gives how many records that were, none or one.
@@ -88,11 +99,11 @@ fn answer<D: Disk, C: Drop>(
 ) -> Result<u32, NoMemory>
     requires whole { book.old.broken ≡ false }
 
-    ensures answered { D.tells_content → OnOk result (answers.new ≡ answers.old ++ answered_from number (line_of line ∷ []) (answers_alone book.old.entries (line_of line ∷ []))) }
-    ensures recorded { D.tells_content → OnOk result (book.new.entries ≡ entries_alone book.old.entries (line_of line ∷ [])) }
-    ensures refused { D.tells_content → OnErr result ((book.new.entries ≡ book.old.entries) ⊎ (book.new.entries ≡ entries_alone book.old.entries (line_of line ∷ []))) }
+    ensures answered { OnOk result (answers.new ≡ answers.old ++ answered_from number (line_of line ∷ []) (answers_alone book.old.entries (line_of line ∷ []))) }
+    ensures recorded { OnOk result (book.new.entries ≡ entries_alone book.old.entries (line_of line ∷ [])) }
+    ensures refused { OnErr result ((book.new.entries ≡ book.old.entries) ⊎ (book.new.entries ≡ entries_alone book.old.entries (line_of line ∷ []))) }
     ensures records { IfOk result (λ records. records ≤ 1) }
-    ensures few { D.tells_content → IfOk result (λ records. length book.new.entries ≤ length book.old.entries + records) }
+    ensures few { IfOk result (λ records. length book.new.entries ≤ length book.old.entries + records) }
     ensures same { book.new ≡ record book.old { entries = book.new.entries } }
 {
     match line {
@@ -119,9 +130,9 @@ fn answer<D: Disk, C: Drop>(
 fn record<D: Disk>(book: &mut Book<D>, key: Key, payload: &[u8]) -> Result<RecordReply, NoMemory>
     requires whole { book.old.broken ≡ false }
 
-    ensures reply { D.tells_content → IfOk result (λ reply. reply ≡ reply_of book.old.entries key payload.now) }
-    ensures recorded { D.tells_content → OnOk result (book.new.entries ≡ after_record book.old.entries key payload.now) }
-    ensures refused { D.tells_content → OnErr result (book.new.entries ≡ book.old.entries) }
+    ensures reply { IfOk result (λ reply. reply ≡ reply_of book.old.entries key payload.now) }
+    ensures recorded { OnOk result (book.new.entries ≡ after_record book.old.entries key payload.now) }
+    ensures refused { OnErr result (book.new.entries ≡ book.old.entries) }
     ensures same { book.new ≡ record book.old { entries = book.new.entries } }
 {
     match reply_told(&book.record(key, payload)) {
@@ -147,8 +158,6 @@ fn write_full<D: Disk>(book: &mut Book<D>, unwritten: u32) -> Result<u32, Record
     if unwritten < BATCH {
         return Ok(unwritten);
     }
-    match book.flush() {
-        Ok(_) => Ok(0),
-        Err(_) => Err(RecordStop::DiskFault),
-    }
+    book.flush()?;
+    Ok(0)
 }

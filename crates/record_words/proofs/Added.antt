@@ -2,29 +2,19 @@
 use Rattle.std.proofs.Common.{◌≡◌, ℕ, ◌+◌, ◌≤◌, Bool, true, false, ◌&&◌, ◌||◌, if◌then◌else◌, is_some, nat_lt, ◌==◌, bytes_eq, List, [], ◌∷◌, ◌++◌, length, Option, Some, None, refl, sym, ap, ◌∙◌, subst, arith}
 use Rattle.std.proofs.lemmas.Bool.Decides.{nat_tests}
 use Rattle.foz_words.specs.declared.key.Key.{Key}
+use Rattle.foz_words.specs.Key.{is_key}
 use Rattle.foz_entry.specs.declared.cut.Entry.{Entry}
+use Rattle.foz_entry.specs.Entries.{end_of, entry_of}
+use Rattle.foz_entry.specs.Limits.{count_limit, end_limit, payload_limit}
 use Rattle.record_words.specs.declared.note.RecordReply.{RecordReply}
 use Rattle.record_words.specs.declared.note.RecordReply.TheVariants.{New, Known, Collision, TooLarge, Full, TooMany}
-use Rattle.foz_entry.specs.Damage.{payload_limit}
-use Rattle.record_words.specs.Entries.{archive_limit, most_entries, payload_at, is_key, holds_key, holder, end_of, entry_of}
+use Rattle.record_words.specs.Entries.{payload_at, holds_key, holder}
 use Rattle.record_words.specs.Recorder.{reply_of, reply_by, reply_unheld}
 use Rattle.record_words.specs.Alone.{grown_by, after_record}
 use Rattle.record_words.specs.Added.{Element, added_to, is_among, fresh_after, fresh, laid, Stays, AllStay}
 use Rattle.record_words.proofs.Rows.{first_or, holder_push}
+use Rattle.record_words.proofs.Holders.{key_same}
 use Rattle.record_words.proofs.History.{entry_sound}
-
-both : (a b : Bool) → (a && b) ≡ true → (a ≡ true) × (b ≡ true)
-both true b p = (refl, p)
-both false b p = absurd cc
-
-key_same : (a b : Key) → is_key a b ≡ true → a ≡ b
-key_same a b t =
-    let p = both (a.tag == b.tag) (a.hash == b.hash) t in
-    let first = p.0 in
-    let second = p.1 in
-    let tags : a.tag ≡ b.tag = grind (arith, nat_tests) in
-    let hashes : a.hash ≡ b.hash = grind (arith, nat_tests) in
-    λ i. record { tag = tags i; hash = hashes i }
 
 -- a reply that stays is the holder's, or a new entry
 kept_if : (b : Bool) (size : ℕ) (r : RecordReply) → Stays (if b then TooLarge size else r) → (b ≡ false) × ((if b then TooLarge size else r) ≡ r)
@@ -51,7 +41,7 @@ module _ (entries : List Entry) (key : Key) (p : List ℕ) (stays : Stays (reply
   grown_free : holder key entries ≡ None → after_record entries key p ≡ entries ++ entry_of (end_of entries) key p ∷ []
   grown_free e =
       let is : reply_of entries key p ≡ reply_unheld entries p = the_reply.1 ∙ ap (λ (h : Option ℕ). reply_by h entries p) e in
-      ap (λ (r : RecordReply). grown_by r entries key p) (is ∙ new_if (nat_lt archive_limit (end_of entries + (56 + length p))) (length entries == most_entries) (end_of entries) (56 + length p) (length entries) (length entries) (subst Stays is stays))
+      ap (λ (r : RecordReply). grown_by r entries key p) (is ∙ new_if (nat_lt end_limit (end_of entries + (56 + length p))) (length entries == count_limit) (end_of entries) (56 + length p) (length entries) (length entries) (subst Stays is stays))
 
 -- the keys held are those held before and those of the elements so far
 abbrev Holds : List Entry → List Key → List Entry → Type 0

@@ -3,9 +3,9 @@ use Rattle.std.proofs.Common.{◌≡◌, ◌≢◌, ℕ, zero, suc, ◌%◌, ◌
 use Rattle.std.specs.List.{AllZip}
 use Rattle.foz_words.specs.declared.key.Key.{Key}
 use Rattle.foz_entry.specs.declared.cut.Entry.{Entry}
+use Rattle.foz_entry.specs.Entries.{end_of, entry_of}
 use Rattle.record_words.specs.declared.note.RecordReply.{RecordReply}
 use Rattle.record_words.specs.declared.note.RecordReply.TheVariants.{New, Known, Collision, TooLarge, Full, TooMany, Flushed, DiskFault, Broken}
-use Rattle.record_words.specs.Entries.{end_of, entry_of}
 use Rattle.record_words.specs.Recorder.{reply_of}
 use Rattle.record_words.specs.Story.{At}
 use Rattle.record_words.specs.Recorded.{Line, Answer, skipped, refused, read, passed, declined, replied, IsAnswered, AreAnswers, Recorded}

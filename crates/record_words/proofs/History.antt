@@ -4,15 +4,17 @@ use Rattle.std.specs.List.{position_or_len}
 use Rattle.std.proofs.lemmas.Bool.Decides.{nat_tests}
 use Rattle.std.proofs.lemmas.List.Sums.{fails_before_first}
 use Rattle.foz_words.specs.declared.key.Key.{Key}
+use Rattle.foz_words.specs.Key.{is_key}
 use Rattle.foz_entry.specs.declared.cut.Entry.{Entry}
+use Rattle.foz_entry.specs.Entries.{is_undamaged, end_of, entry_of}
+use Rattle.foz_entry.specs.Limits.{payload_limit}
 use Rattle.record_words.specs.declared.note.FullNote.{FullNote}
 use Rattle.record_words.specs.declared.note.RecordCall.{RecordCall}
 use Rattle.record_words.specs.declared.note.RecordCall.TheVariants.{Record}
 use Rattle.record_words.specs.declared.note.RecordReply.{RecordReply}
 use Rattle.record_words.specs.declared.note.RecordReply.TheVariants.{New, TooLarge, Broken}
 use Rattle.foz_crc.specs.Crc32.{crc32_of}
-use Rattle.foz_entry.specs.Damage.{payload_limit}
-use Rattle.record_words.specs.Entries.{is_undamaged, is_key, holds_key, holder, end_of, entry_of}
+use Rattle.record_words.specs.Entries.{holds_key, holder}
 use Rattle.record_words.specs.declared.state.RecorderState.{RecorderState}
 use Rattle.record_words.specs.Recorder.{after, reply_of}
 use Rattle.record_words.specs.Story.{At, AreApart, after_note, leads, payload_held, Records, Answers, AnswersCall, Legal}

@@ -4,18 +4,19 @@ use Rattle.std.specs.List.{AllZip}
 use Rattle.std.proofs.lemmas.List.Elements.{All-take}
 use Rattle.foz_words.specs.declared.key.Key.{Key}
 use Rattle.foz_entry.specs.declared.cut.Entry.{Entry}
+use Rattle.foz_entry.specs.Entries.{end_of, entry_of}
+use Rattle.foz_entry.specs.Limits.{count_limit, end_limit, payload_limit}
 use Rattle.record_words.specs.declared.note.FullNote.{FullNote}
 use Rattle.record_words.specs.declared.note.RecordCall.{RecordCall}
 use Rattle.record_words.specs.declared.note.RecordCall.TheVariants.{Record}
 use Rattle.record_words.specs.declared.note.RecordReply.{RecordReply}
 use Rattle.record_words.specs.declared.note.RecordReply.TheVariants.{New, DiskFault, Broken}
-use Rattle.foz_entry.specs.Damage.{payload_limit}
-use Rattle.record_words.specs.Entries.{archive_limit, most_entries, payload_at, end_of, entry_of, holder}
+use Rattle.record_words.specs.Entries.{payload_at, holder}
 use Rattle.record_words.specs.declared.state.RecorderState.{RecorderState}
 use Rattle.record_words.specs.Recorder.{after, reply_of, reply_by, reply_unheld}
 use Rattle.record_words.specs.Story.{At, leads, Records, payload_held}
 use Rattle.record_words.specs.Recorded.{Line, Answer, skipped, refused, read, replied, IsAnswered, IsReplyAt, AreAnswers}
-use Rattle.record_words.specs.Placed.{Premises, answers_by, answers_told}
+use Rattle.record_words.specs.Placed.{TellsEachLine, answers_by, answers_told}
 use Rattle.record_words.proofs.Places.{at_one, take_front, at_here}
 use Rattle.record_words.proofs.Leads.{leads_grows, leads_later, leads_whole, leads_next, leads_unbroken, added_by}
 
@@ -26,8 +27,8 @@ by_test false x y i e other = e
 
 new_unheld : (entries : List Entry) (payload : List ℕ) (i : ℕ) → reply_unheld entries payload ≡ New i → i ≡ length entries
 new_unheld entries payload i e =
-    let second = by_test (nat_lt archive_limit (end_of entries + (56 + length payload))) _ _ i e (λ h. cc) in
-    let third = by_test (length entries == most_entries) _ _ i second (λ h. cc) in
+    let second = by_test (nat_lt end_limit (end_of entries + (56 + length payload))) _ _ i e (λ h. cc) in
+    let third = by_test (length entries == count_limit) _ _ i second (λ h. cc) in
     cc
 
 by_holder : (h : Option ℕ) (entries : List Entry) (payload : List ℕ) (i : ℕ) → reply_by h entries payload ≡ New i → (h ≡ None) × (i ≡ length entries)
@@ -76,7 +77,7 @@ module _ {Cause : Type 0} (reply_at : Key → List ℕ → ℕ → RecordReply) 
   answer_of place (refused cause ∷ lines) (suc k) key payload e = answer_of (λ k. place (suc k)) lines k key payload e
   answer_of place (read a p ∷ lines) (suc k) key payload e = answer_of (λ k. place (suc k)) lines k key payload e
 
-module _ {Cause : Type 0} (origin : RecorderState) (story : List FullNote) (lines : List (Line Cause)) (threads : ℕ) (seat place : ℕ → ℕ) (given : Premises origin story lines threads seat place) where
+module _ {Cause : Type 0} (origin : RecorderState) (story : List FullNote) (lines : List (Line Cause)) (threads : ℕ) (seat place : ℕ → ℕ) (given : TellsEachLine origin story lines threads seat place) where
   abbrev entries_at : ℕ → List Entry
   entries_at p = (leads origin (take p story)).entries
 

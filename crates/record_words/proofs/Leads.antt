@@ -3,12 +3,12 @@ use Rattle.std.proofs.Common.{◌≡◌, ◌≢◌, ℕ, suc, ◌<◌, ◌≤◌
 use Rattle.std.proofs.lemmas.List.Elements.{All-head, All-tail}
 use Rattle.foz_words.specs.declared.key.Key.{Key}
 use Rattle.foz_entry.specs.declared.cut.Entry.{Entry}
+use Rattle.foz_entry.specs.Entries.{end_of, entry_of}
 use Rattle.record_words.specs.declared.note.FullNote.{FullNote}
 use Rattle.record_words.specs.declared.note.RecordCall.{RecordCall}
 use Rattle.record_words.specs.declared.note.RecordCall.TheVariants.{Record, Flush}
 use Rattle.record_words.specs.declared.note.RecordReply.{RecordReply}
 use Rattle.record_words.specs.declared.note.RecordReply.TheVariants.{New, Flushed, DiskFault}
-use Rattle.record_words.specs.Entries.{end_of, entry_of}
 use Rattle.record_words.specs.declared.state.RecorderState.{RecorderState}
 use Rattle.record_words.specs.Recorder.{after}
 use Rattle.record_words.specs.Story.{At, after_note, leads, HasNoFault}

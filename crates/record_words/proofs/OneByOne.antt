@@ -1,17 +1,16 @@
 -- Recording the lines one by one makes a record of one thread, and a front of them can be recorded first.
-use Rattle.std.proofs.Common.{◌≡◌, ◌≢◌, ◌⊎◌, inl, inr, ⊎_elim, eq-or-lt_of_le, ℕ, zero, suc, ◌+◌, ◌%◌, ◌<◌, ◌≤◌, List, [], ◌∷◌, ◌++◌, length, take, refl, sym, ap, ◌∙◌, subst, append_assoc, append-nil, length-append, arith}
-use Rattle.std.specs.List.{AllZip}
+use Rattle.std.proofs.Common.{◌≡◌, ◌≢◌, ◌⊎◌, inl, inr, ⊎_elim, eq-or-lt_of_le, ℕ, zero, suc, ◌+◌, ◌<◌, ◌≤◌, List, [], ◌∷◌, ◌++◌, length, take, refl, sym, ap, ◌∙◌, subst, append_assoc, append-nil, length-append, arith}
 use Rattle.std.proofs.lemmas.Bool.{cases_lt}
 use Rattle.foz_words.specs.declared.key.Key.{Key}
 use Rattle.foz_entry.specs.declared.cut.Entry.{Entry}
+use Rattle.foz_entry.specs.Entries.{end_of, entry_of}
 use Rattle.record_words.specs.declared.note.RecordReply.{RecordReply}
 use Rattle.record_words.specs.declared.note.RecordReply.TheVariants.{New, Known, Collision, TooLarge, Full, TooMany, Flushed, DiskFault, Broken}
 use Rattle.record_words.specs.declared.answered.Answered.{Answered}
 use Rattle.record_words.specs.declared.answered.LineAnswer.TheVariants.{Refused, Replied}
-use Rattle.record_words.specs.Entries.{end_of, entry_of}
 use Rattle.record_words.specs.Recorder.{reply_of}
 use Rattle.record_words.specs.Story.{At, AreApart}
-use Rattle.record_words.specs.Recorded.{Line, Answer, skipped, refused, read, passed, declined, replied, IsReplyAt, IsAnswered, AreAnswers}
+use Rattle.record_words.specs.Recorded.{Line, Answer, skipped, refused, read, passed, declined, replied, IsAnswered, AreAnswers}
 use Rattle.record_words.specs.Answered.{answered_from}
 use Rattle.record_words.specs.Alone.{grown_by, after_record, entries_alone, answers_alone}
 use Rattle.record_words.proofs.Places.{take_front, at_here, at_below, at_one, at_append}

@@ -6,9 +6,10 @@ use Rattle.std.proofs.lemmas.List.Sums.{prefix_len-le-length}
 use Rattle.std.proofs.lemmas.List.Folds.{position_or_len_push}
 use Rattle.foz_words.specs.declared.key.Key.{Key}
 use Rattle.foz_entry.specs.declared.cut.Entry.{Entry}
+use Rattle.foz_entry.specs.Entries.{end_of}
+use Rattle.foz_entry.specs.Limits.{count_limit, end_limit, payload_limit}
 use Rattle.record_words.specs.declared.note.RecordReply.TheVariants.{New, Known, Collision, TooLarge, Full, TooMany, Broken}
-use Rattle.foz_entry.specs.Damage.{payload_limit}
-use Rattle.record_words.specs.Entries.{archive_limit, most_entries, payload_at, holds_key, holder, end_of}
+use Rattle.record_words.specs.Entries.{payload_at, holds_key, holder}
 use Rattle.record_words.specs.declared.state.RecorderState.{RecorderState}
 use Rattle.record_words.specs.Recorder.{reply_of, reply_by, record_reply}
 
@@ -33,19 +34,19 @@ module _ (s : RecorderState) (key : Key) (p : List ℕ) where
       row_collision i e t = row_held (Some i) e ∙ ap (λ (b : Bool). if b then Known i else Collision i) t
 
       module _ (free : holder key s.entries ≡ None) where
-        pub row_full : archive_limit < end_of s.entries + (56 + length p) → record_reply s key p ≡ Full (end_of s.entries) (56 + length p)
-        row_full h = let t : nat_lt archive_limit (end_of s.entries + (56 + length p)) ≡ true = grind (arith, nat_tests) in row_held None free ∙ (rw t)
+        pub row_full : end_limit < end_of s.entries + (56 + length p) → record_reply s key p ≡ Full (end_of s.entries) (56 + length p)
+        row_full h = let t : nat_lt end_limit (end_of s.entries + (56 + length p)) ≡ true = grind (arith, nat_tests) in row_held None free ∙ (rw t)
 
-        pub row_too_many : end_of s.entries + (56 + length p) ≤ archive_limit → length s.entries ≡ most_entries → record_reply s key p ≡ TooMany (length s.entries)
+        pub row_too_many : end_of s.entries + (56 + length p) ≤ end_limit → length s.entries ≡ count_limit → record_reply s key p ≡ TooMany (length s.entries)
         row_too_many h n =
-            let t : nat_lt archive_limit (end_of s.entries + (56 + length p)) ≡ false = grind (arith, nat_tests) in
-            let u : (length s.entries == most_entries) ≡ true = grind (arith, nat_tests) in
+            let t : nat_lt end_limit (end_of s.entries + (56 + length p)) ≡ false = grind (arith, nat_tests) in
+            let u : (length s.entries == count_limit) ≡ true = grind (arith, nat_tests) in
             row_held None free ∙ (rw (t, u))
 
-        pub row_new : end_of s.entries + (56 + length p) ≤ archive_limit → length s.entries ≢ most_entries → record_reply s key p ≡ New (length s.entries)
+        pub row_new : end_of s.entries + (56 + length p) ≤ end_limit → length s.entries ≢ count_limit → record_reply s key p ≡ New (length s.entries)
         row_new h n =
-            let t : nat_lt archive_limit (end_of s.entries + (56 + length p)) ≡ false = grind (arith, nat_tests) in
-            let u : (length s.entries == most_entries) ≡ false = grind (arith, nat_tests) in
+            let t : nat_lt end_limit (end_of s.entries + (56 + length p)) ≡ false = grind (arith, nat_tests) in
+            let u : (length s.entries == count_limit) ≡ false = grind (arith, nat_tests) in
             row_held None free ∙ (rw (t, u))
 
 -- the place of a first element, with one more

@@ -1,10 +1,12 @@
 -- What recording a list of elements in order adds.
 use Rattle.std.specs.Prelude.{ℕ, ◌||◌, Bool, false, if◌then◌else◌, is_some, ⊤, List, [], ◌∷◌, ◌++◌}
 use Rattle.foz_words.specs.declared.key.Key.{Key}
+use Rattle.foz_words.specs.Key.{is_key}
 use Rattle.foz_entry.specs.declared.cut.Entry.{Entry}
+use Rattle.foz_entry.specs.Entries.{end_of, entry_of}
 use Rattle.record_words.specs.declared.note.RecordReply.{RecordReply}
 use Rattle.record_words.specs.declared.note.RecordReply.TheVariants.{New, Known, Collision}
-use Rattle.record_words.specs.Entries.{is_key, holder, end_of, entry_of}
+use Rattle.record_words.specs.Entries.{holder}
 use Rattle.record_words.specs.Recorder.{reply_of}
 use Rattle.record_words.specs.Alone.{after_record}
 

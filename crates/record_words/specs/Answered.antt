@@ -2,7 +2,7 @@
 use Rattle.std.specs.Prelude.{ℕ, suc, List, [], ◌∷◌}
 use Rattle.record_words.specs.declared.answered.Answered.{Answered}
 use Rattle.record_words.specs.declared.answered.LineAnswer.TheVariants.{Refused, Replied}
-use Rattle.record_words.specs.Recorded.{Line, Answer, skipped, refused, read, passed, declined, replied}
+use Rattle.record_words.specs.Recorded.{Line, Answer, skipped, refused, read, declined, replied}
 
 module _ {Cause : Type 0} where
   -- of lines from this number on; one that is skipped has no answer

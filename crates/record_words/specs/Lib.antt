@@ -1,4 +1,6 @@
 pub mod Entries
+pub mod Index
+pub mod Replies
 pub mod Recorder
 pub mod Story
 pub mod Recorded

@@ -25,8 +25,9 @@ module _ {Cause : Type 0} where
     pub rising : (j k : ℕ) (a b : Key) (p q : List ℕ) → j < k → j % threads ≡ k % threads → At lines j (read a p) → At lines k (read b q) → place j < place k
     pub every : (p : ℕ) (n : FullNote) (key : Key) → At story p n → n.note.call ≡ Record key → (k : ℕ) × (a : Key) × (b : List ℕ) × (At lines k (read a b) × (place k ≡ p))
 
--- the law: a story of one recorder, in which each line has its call, makes a record of the lines
-pub record Premises {Cause : Type 0} (origin : RecorderState) (story : List FullNote) (lines : List (Line Cause)) (threads : ℕ) (seat place : ℕ → ℕ) : Type 0 where
+-- A story of a recorder whose disk never failed, in which each line that is read has its call, along each thread in order.
+-- No two threads have one seat.
+pub record TellsEachLine {Cause : Type 0} (origin : RecorderState) (story : List FullNote) (lines : List (Line Cause)) (threads : ℕ) (seat place : ℕ → ℕ) : Type 0 where
   pub some : 0 < threads
   pub distinct : (t u : ℕ) → t < threads → u < threads → seat t ≡ seat u → t ≡ u
   pub whole : origin.broken ≡ false

@@ -2,19 +2,20 @@
 use Rattle.std.specs.Prelude.{◌≡◌, ℕ, ◌+◌, ◌<◌, ◌==◌, nat_lt, true, false, if◌then◌else◌, List, [], ◌∷◌, ◌++◌, length, bytes_eq, Option, Some, None}
 use Rattle.foz_words.specs.declared.key.Key.{Key}
 use Rattle.foz_entry.specs.declared.cut.Entry.{Entry}
+use Rattle.foz_entry.specs.Entries.{end_of, entry_of}
+use Rattle.foz_entry.specs.Limits.{head_len, payload_limit, end_limit, count_limit}
 use Rattle.record_words.specs.declared.state.RecorderState.{RecorderState}
 use Rattle.record_words.specs.declared.note.RecordCall.{RecordCall}
 use Rattle.record_words.specs.declared.note.RecordCall.TheVariants.{Record, Flush}
 use Rattle.record_words.specs.declared.note.RecordReply.{RecordReply}
 use Rattle.record_words.specs.declared.note.RecordReply.TheVariants.{New, Known, Collision, TooLarge, Full, TooMany, Flushed, DiskFault, Broken}
-use Rattle.foz_entry.specs.Damage.{payload_limit}
-use Rattle.record_words.specs.Entries.{archive_limit, most_entries, holder, end_of, entry_of, payload_at}
+use Rattle.record_words.specs.Entries.{holder, payload_at}
 
 -- the reply where no entry holds the key
 abbrev pub reply_unheld : List Entry → List ℕ → RecordReply
 reply_unheld entries payload =
-    if nat_lt archive_limit (end_of entries + (56 + length payload)) then Full (end_of entries) (56 + length payload)
-    else (if length entries == most_entries then TooMany (length entries) else New (length entries))
+    if nat_lt end_limit (end_of entries + (head_len + length payload)) then Full (end_of entries) (head_len + length payload)
+    else (if length entries == count_limit then TooMany (length entries) else New (length entries))
 
 -- the reply by the key's holder
 abbrev pub reply_by : Option ℕ → List Entry → List ℕ → RecordReply

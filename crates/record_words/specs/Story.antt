@@ -2,12 +2,13 @@
 use Rattle.std.specs.Prelude.{◌≡◌, ◌≢◌, ℕ, ◌<◌, ◌≤◌, true, List, [], ◌∷◌, ◌++◌, length, slice_get, Some, All}
 use Rattle.foz_words.specs.declared.key.Key.{Key}
 use Rattle.foz_entry.specs.declared.cut.Entry.{Entry}
+use Rattle.foz_entry.specs.Entries.{is_undamaged}
 use Rattle.record_words.specs.declared.note.FullNote.{FullNote}
 use Rattle.record_words.specs.declared.note.RecordCall.{RecordCall}
 use Rattle.record_words.specs.declared.note.RecordCall.TheVariants.{Record, Flush}
 use Rattle.record_words.specs.declared.note.RecordReply.{RecordReply}
 use Rattle.record_words.specs.declared.note.RecordReply.TheVariants.{New, Known, Collision, DiskFault}
-use Rattle.record_words.specs.Entries.{payload_at, is_undamaged}
+use Rattle.record_words.specs.Entries.{payload_at}
 use Rattle.record_words.specs.declared.state.RecorderState.{RecorderState}
 use Rattle.record_words.specs.Recorder.{record_reply, FlushReply, after}
 

@@ -2,23 +2,23 @@
 ghost use Rattle.std.specs.Prelude.{◌≡◌, ◌<◌, ◌≤◌, ℕ, List, [], ◌∷◌, ◌++◌, true, length, take};
 ghost use Rattle.foz_words.specs.declared.key.Key.{Key};
 ghost use Rattle.foz_entry.specs.declared.cut.Entry.{Entry};
+ghost use Rattle.foz_entry.specs.Entries.{is_undamaged};
 ghost use Rattle.record_words.specs.declared.note.FullNote.{FullNote};
 ghost use Rattle.record_words.specs.declared.state.RecorderState.{RecorderState};
-ghost use Rattle.record_words.specs.Entries.{is_undamaged};
 ghost use Rattle.record_words.specs.Story.{At, AreApart, Answers, Legal, leads};
 ghost use Rattle.record_words.specs.Recorded.{Line, Answer, AreAnswers, Recorded, read, replied};
 ghost use Rattle.record_words.specs.Alone.{entries_alone, answers_alone};
-ghost use Rattle.record_words.specs.Placed.{Premises, answers_told};
+ghost use Rattle.record_words.specs.Placed.{TellsEachLine, answers_told};
 ghost use Rattle.record_words.specs.Added.{Element, AllStay, added_to, fresh, laid};
 
 /// A story of one recorder, in which each line of a capture has its call, makes a record of the lines, whatever the
 /// order in which the threads came to record. Each answer has the reply of the line's own call.
 pub fn stories_make_records<Cause>()
     ensures recorded { (origin : RecorderState) (story : List FullNote) (lines : List (Line Cause)) (threads : ℕ) (seat place : ℕ → ℕ)
-        → Premises origin story lines threads seat place
+        → TellsEachLine origin story lines threads seat place
         → AreAnswers origin.entries lines threads (leads origin story).entries (answers_told origin story lines place) }
     ensures by_the_calls { (origin : RecorderState) (story : List FullNote) (lines : List (Line Cause)) (threads : ℕ) (seat place : ℕ → ℕ)
-        → (given : Premises origin story lines threads seat place) → (k : ℕ) (key : Key) (payload : List ℕ) (at : At lines k (read key payload))
+        → (given : TellsEachLine origin story lines threads seat place) → (k : ℕ) (key : Key) (payload : List ℕ) (at : At lines k (read key payload))
         → At (answers_told origin story lines place) k (replied (given.placed.calls k key payload at).note.note.reply (length (leads origin (take (place k) story)).entries)) }
 {}
 

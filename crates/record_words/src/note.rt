@@ -1,3 +1,6 @@
+ghost use Rattle.std.specs.Prelude.{◌≡◌};
+ghost use Rattle.record_words.specs.Replies.{is_new, is_known, is_full};
+
 use foz_words::Key;
 use std::collections::LinkedList;
 
@@ -20,6 +23,29 @@ pub enum RecordReply {
     Flushed { count: u32 },
     DiskFault,
     Broken,
+}
+
+impl RecordReply {
+    /// Was the payload added?
+    pub fn is_new(&self) -> bool
+        ensures { result ≡ is_new self.now }
+    {
+        matches!(self, RecordReply::New { .. })
+    }
+
+    /// Was the payload there already?
+    pub fn is_known(&self) -> bool
+        ensures { result ≡ is_known self.now }
+    {
+        matches!(self, RecordReply::Known { .. })
+    }
+
+    /// Has the archive no room for the payload?
+    pub fn is_full(&self) -> bool
+        ensures { result ≡ is_full self.now }
+    {
+        matches!(self, RecordReply::Full { .. } | RecordReply::TooMany { .. })
+    }
 }
 
 /// A call with its reply, and the number of the seat that made it.

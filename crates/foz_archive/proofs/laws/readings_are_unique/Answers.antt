@@ -1,5 +1,5 @@
-use Rattle.foz_archive.proofs.Unique.{IsReading-unique, IsRefusedBy-unique, never_both, Holds-unique}
+use Rattle.foz_archive.proofs.Unique.{IsReadingAs-unique, IsRefusedAs-unique, never_both, Holds-unique}
 use Rattle.foz_archive.proofs.laws.readings_are_unique.Goals as goal
 
 pub returns : goal.returns
-returns c = record { one_reading = IsReading-unique; one_refusal = IsRefusedBy-unique; never_both = never_both; one_content = Holds-unique }
+returns c = record { one_reading = IsReadingAs-unique; one_refusal = IsRefusedAs-unique; never_both = never_both; one_content = Holds-unique }

@@ -2,12 +2,13 @@ use Rattle.std.proofs.Common.{◌≡◌, ◌∙◌, ◌+◌, ◌∷◌, [], take
 use Rattle.std.proofs.lemmas.List.{drop-take, drop-drop}
 use Rattle.foz_entry.specs.declared.cut.Entry.{Entry}
 use Rattle.foz_entry.proofs.Heads.{length-whole}
-use Rattle.foz_archive.specs.Reading.{count_limit, is_clean}
+use Rattle.foz_entry.specs.Limits.{count_limit}
+use Rattle.foz_archive.specs.Reading.{is_clean}
 use Rattle.foz_archive.proofs.Standing.{goes_on, goes_on_none, goes_on_more}
 use Rattle.foz_archive.proofs.scanned.entries_of.Goals as goal
 
-pub returns-then-len-eq-COUNT_LIMIT : goal.returns-then-len-eq-COUNT_LIMIT
-returns-then-len-eq-COUNT_LIMIT c =
+pub returns-then-len : goal.returns-then-len
+returns-then-len c =
     let stands = c.end_of_row-end.ensures in
     goes_on_more 16 (drop 16 c.args.bytes.now) c.loop-head.entries c.loop-head.place count_limit c.end_of_row-end.result c.loop-head.rest.now c.loop-head.invariant.stand (omega (arith, c.len.ensures))
     c.in-Some.head _ _ c.in-Some.ensures.found stands.0 stands.1

@@ -1,5 +1,5 @@
 use Rattle.std.proofs.Common.{◌≡◌, ◌+◌, ◌≤◌, length, drop}
-use Rattle.foz_archive.specs.Reading.{count_limit}
+use Rattle.foz_entry.specs.Limits.{count_limit}
 use Rattle.foz_archive.proofs.Standing.{GoesOn}
 use Rattle.foz_archive.proofs.scanned.entries_of.Given as goal
 

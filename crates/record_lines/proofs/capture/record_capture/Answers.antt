@@ -15,7 +15,7 @@ returns-in-Ok-record_lines-clause-leaves g c told durable =
     let whole = c.in-Ok.ensures.whole in
     rw c.close.ensures.disk (
     book_leaves _ _ _ durable (g.met.D.Disk.content_is_now c.args.disk told) d.tells_content d.tells_images d.content d.history d.faults c.args.disk refl c.record_lines.new.book c.close.ensures.kept (same.0 ∙ whole.3)
-    c.in-Ok.book.entries (c.in-Ok.ensures.held both) (same.1 ∙ whole.0) (c.record_lines.ensures.front both) told
+    c.in-Ok.book.entries (c.in-Ok.ensures.held both) (same.1 ∙ whole.0) c.record_lines.ensures.front told
     )
 
 pub returns-in-Ok-record_lines-clause-durable : goal.returns-in-Ok-record_lines-clause-durable
@@ -30,5 +30,5 @@ returns-in-Err-record_lines-clause-leaves g c told durable =
     let whole = c.in-Ok.ensures.whole in
     rw c.close-in-Err-record_lines.ensures.disk (
     book_leaves _ _ _ durable (g.met.D.Disk.content_is_now c.args.disk told) d.tells_content d.tells_images d.content d.history d.faults c.args.disk refl c.record_lines.new.book c.close-in-Err-record_lines.ensures.kept (same.0 ∙ whole.3)
-    c.in-Ok.book.entries (c.in-Ok.ensures.held both) (same.1 ∙ whole.0) (c.record_lines.ensures.front both) told
+    c.in-Ok.book.entries (c.in-Ok.ensures.held both) (same.1 ∙ whole.0) c.record_lines.ensures.front told
     )

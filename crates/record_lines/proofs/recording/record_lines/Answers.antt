@@ -1,23 +1,22 @@
 use Rattle.std.proofs.Common.{◌∙◌, inr, ap, refl, arith}
 use Rattle.record_dedup.specs.Kept.{Booked}
-use Rattle.record_dedup.proofs.Alone.{flush_keeps}
 use Rattle.record_lines.specs.Lines.{line_of}
 use Rattle.record_lines.proofs.Fronts.{one_waits, all_recorded, so_much_more, more_recorded}
 use Rattle.record_lines.proofs.recording.record_lines.Goals as goal
 
 pub returns-in_err-unwritten-clause-front : goal.returns-in_err-unwritten-clause-front
-returns-in_err-unwritten-clause-front g c told =
+returns-in_err-unwritten-clause-front g c =
     let next = rw c.in-Some.is at c.in_ok-line.ensures in
-    more_recorded _ _ _ _ _ _ _ c.loop-answers.invariant.so_far (line_of c.in-Some.line) _ next _ told (c.in_err-unwritten.ensures.refused told)
+    more_recorded _ _ _ _ _ _ c.loop-answers.invariant.so_far (line_of c.in-Some.line) _ next _ c.in_err-unwritten.ensures.refused
 
 pub returns-in_err-unwritten-clause-few_wait : goal.returns-in_err-unwritten-clause-few_wait
-returns-in_err-unwritten-clause-few_wait g c told =
-    one_waits _ _ (line_of c.in-Some.line) _ _ _ _ (c.in_err-unwritten.ensures.refused told) (ap (λ (b : Booked _). b.flushed) c.answer.ensures.same) (c.loop-answers.invariant.wait told) c.loop-answers.invariant.few
+returns-in_err-unwritten-clause-few_wait g c =
+    one_waits _ _ (line_of c.in-Some.line) _ _ _ _ c.in_err-unwritten.ensures.refused (ap (λ (b : Booked _). b.flushed) c.answer.ensures.same) c.loop-answers.invariant.wait c.loop-answers.invariant.few
 
 pub returns-in_err-unwritten-2-clause-front : goal.returns-in_err-unwritten-2-clause-front
-returns-in_err-unwritten-2-clause-front g c told =
+returns-in_err-unwritten-2-clause-front g c =
     let next = rw c.in-Some.is at c.in_ok-line.ensures in
-    more_recorded _ _ _ _ _ _ _ c.loop-answers.invariant.so_far (line_of c.in-Some.line) _ next _ told (inr (c.write_full.ensures.entries ∙ c.in_ok-unwritten.ensures.recorded told))
+    more_recorded _ _ _ _ _ _ c.loop-answers.invariant.so_far (line_of c.in-Some.line) _ next _ (inr (c.write_full.ensures.entries ∙ c.in_ok-unwritten.ensures.recorded))
 
 pub loop-answers-preserved : goal.loop-answers-preserved
 loop-answers-preserved g c =
@@ -26,16 +25,16 @@ loop-answers-preserved g c =
     let flushed = ap (λ (b : Booked _). b.flushed) c.answer.ensures.same in
     let faults = ap (λ (b : Booked _). g.D.Disk.faults b.disk) c.answer.ensures.same in
     record {
-      so_far = so_much_more _ _ _ _ _ _ _ c.loop-answers.invariant.so_far (line_of c.in-Some.line) _ next _ _ _ refl (λ told. c.write_full.ensures.entries ∙ c.in_ok-unwritten.ensures.recorded told) c.in_ok-unwritten.ensures.answered;
+      so_far = so_much_more _ _ _ _ _ _ c.loop-answers.invariant.so_far (line_of c.in-Some.line) _ next _ _ _ refl (c.write_full.ensures.entries ∙ c.in_ok-unwritten.ensures.recorded) c.in_ok-unwritten.ensures.answered;
       whole = wrote.whole;
       few = wrote.left;
-      wait = λ told. wrote.wait (omega (arith, c.in_ok-unwritten.ensures.few told, c.loop-answers.invariant.wait told, flushed));
+      wait = wrote.wait (omega (arith, c.in_ok-unwritten.ensures.few, c.loop-answers.invariant.wait, flushed));
       began = c.write_full.ensures.same.0 ∙ (ap (λ (b : Booked _). b.began) c.answer.ensures.same ∙ c.loop-answers.invariant.began);
       opened = c.write_full.ensures.same.1 ∙ (ap (λ (b : Booked _). b.opened) c.answer.ensures.same ∙ c.loop-answers.invariant.opened);
       later = omega (arith, faults, c.write_full.ensures.later, c.loop-answers.invariant.later);
     }
 
-pub returns-in-Ok-clause-recorded : goal.returns-in-Ok-clause-recorded
-returns-in-Ok-clause-recorded g c told =
+pub returns-clause-recorded : goal.returns-clause-recorded
+returns-clause-recorded g c =
     let none = rw c.in_default.is at c.in_ok-line.ensures in
-    rw (flush_keeps _ _ _ c.flush.ensures.step) (all_recorded _ _ _ _ _ _ _ c.loop-answers.invariant.so_far none told)
+    rw c.flush.ensures.entries (all_recorded _ _ _ _ _ _ c.loop-answers.invariant.so_far none)

@@ -4,10 +4,10 @@ use Rattle.record_lines.proofs.recording.record_lines.Given as goal
 
 abbrev pub invariant-loop-answers : goal.invariant-loop-answers
 invariant-loop-answers g l = record {
-  so_far : IsSoFar g.D.Disk.tells_content l.fn.book.entries l.book.entries (g.L.Lines.rest l.fn.lines) (g.L.Lines.rest l.lines) l.number l.answers;
+  so_far : IsSoFar l.fn.book.entries l.book.entries (g.L.Lines.rest l.fn.lines) (g.L.Lines.rest l.lines) l.number l.answers;
   whole : l.book.broken ≡ false;
   few : l.unwritten < 64;
-  wait : g.D.Disk.tells_content → length l.book.entries ≤ l.book.flushed + l.unwritten;
+  wait : length l.book.entries ≤ l.book.flushed + l.unwritten;
   began : l.book.began ≡ l.fn.book.began;
   opened : l.book.opened ≡ l.fn.book.opened;
   later : g.D.Disk.faults l.fn.book.disk ≤ g.D.Disk.faults l.book.disk;

@@ -1,11 +1,12 @@
-use Rattle.std.proofs.Common.{◌≡◌, ◌<◌, inl, inr, ℕ, List, ◌∙◌, ap, subst, sym, arith}
+use Rattle.std.proofs.Common.{◌≡◌, ◌<◌, ◌⊎◌, inl, inr, ℕ, ◌≤◌, List, ◌∙◌, ap, subst, sym, arith}
 use Rattle.std.specs.Prelude.{Bool, IsTrue, ◌==◌}
 use Rattle.std.specs.List.{list_any}
-use Rattle.disk_model.specs.Memory.{FailsAt}
+use Rattle.disk_model.specs.Plans.{IsListed}
 use Rattle.disk_model.proofs.memory_disk.MemDisk.fails_now.Goals as goal
 
-listed : (made limit : ℕ) (failing : List ℕ) (found : Bool) → made < limit → found ≡ list_any (λ number. number == made) failing → (IsTrue found → FailsAt made limit failing) × (FailsAt made limit failing → IsTrue found)
-listed made limit failing found below is = (
+listed : (next calls : ℕ) (failing : List ℕ) (found : Bool) → next < calls → found ≡ list_any (λ number. number == next) failing
+    → (IsTrue found → (calls ≤ next) ⊎ IsListed failing next) × ((calls ≤ next) ⊎ IsListed failing next → IsTrue found)
+listed next calls failing found below is = (
   (λ yes. inr (subst IsTrue is yes)),
   (λ fails. elim fails [
     | inl past ↦ absurd (omega arith)

@@ -3,7 +3,8 @@ use Rattle.disk_model.specs.Disk.{DiskState, after_write}
 use Rattle.disk_model.specs.Memory.{state_of}
 use Rattle.disk_model.specs.declared.call.Call.TheVariants.{Write}
 use Rattle.disk_model.proofs.Images.{write_keeps_image}
-use Rattle.disk_model.proofs.Kept.{Grown, grown_state, grown_full, grown_history, grown_latest, latest_is, image_at, written_state, write_call}
+use Rattle.disk_model.proofs.Kept.{Grown, grown_state, grown_full, grown_history, grown_latest, image_at, written_state, write_call}
+use Rattle.disk_model.specs.Latest.{latest_is}
 use Rattle.disk_model.proofs.memory_disk.MemDiskDisk.write_at.Goals as goal
 
 pub invariant_of-self-clause-state : goal.invariant_of-self-clause-state

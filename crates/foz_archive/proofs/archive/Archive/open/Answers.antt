@@ -1,21 +1,25 @@
-use Rattle.std.proofs.Common.{◌≡◌, ◌⊎◌, List, ℕ, sym, subst}
-use Rattle.disk_model.specs.Disk.{LeavesOnly}
-use Rattle.foz_archive.specs.Opened.{HoldAlike, IsClosedArchive, opened_disk}
-use Rattle.foz_archive.proofs.Opened.{after_sync_reads, after_sync_runs}
+use Rattle.foz_archive.specs.Opened.{opened_disk}
+use Rattle.foz_archive.proofs.Opened.{opened_holds, opening_leaves, opening_keeps, opening_reads}
 use Rattle.foz_archive.proofs.archive.Archive.open.Goals as goal
 
-module _ (g : _) (c : goal.After-open_settled g) (told : g.D.Disk.tells_images) where
-  same : g.D.Disk.content c.sync.new.self ≡ g.D.Disk.content c.args.disk
-  same = c.sync.ensures.content (g.met.D.Disk.tells_both told)
+pub returns-clause-held : goal.returns-clause-held
+returns-clause-held g c told =
+    opened_holds c.settle.result (g.D.Disk.content c.args.disk) c.in_ok-read.field-0.entries c.in_ok-read.field-0.end c.settle.ensures.opened (c.in_ok-read.ensures.held told)
 
-pub returns-in-Ok-clause-any_moment : goal.returns-in-Ok-clause-any_moment
-returns-in-Ok-clause-any_moment g c told =
-    after_sync_runs _ _ _ (g.D.Disk.content c.args.disk) 8 c.sync.result (g.met.D.Disk.content_is_image c.args.disk told) (g.met.D.Disk.content_is_now c.args.disk told) (c.sync.ensures.images told)
-    (subst (λ (l : List ℕ). LeavesOnly (g.D.Disk.history c.sync.new.self) (g.D.Disk.history (opened_disk c.open_settled.result)) 8 (λ bytes. (bytes ≡ l) ⊎ HoldAlike l bytes)) (same g c told)
-    (c.open_settled.ensures.any_moment told))
+pub returns-clause-any_moment : goal.returns-clause-any_moment
+returns-clause-any_moment g c told =
+    let d = g.D.Disk in
+    opening_leaves d.tells_content d.tells_images g.met.D.Disk.tells_both d.content d.history c.args.disk c.in_ok-read.field-0.disk (opened_disk c.settle.result) c.in_ok-read.field-0.entries
+    c.in_ok-read.ensures.content c.in_ok-read.ensures.held c.in_ok-read.ensures.any_moment c.settle.ensures.mends told
 
-pub returns-in-Ok-clause-only_read : goal.returns-in-Ok-clause-only_read
-returns-in-Ok-clause-only_read g c told closed =
-    after_sync_reads _ _ _ (g.D.Disk.content c.args.disk) 4 c.sync.result (g.met.D.Disk.content_is_image c.args.disk told) (g.met.D.Disk.content_is_now c.args.disk told) (c.sync.ensures.images told)
-    (subst (λ (l : List ℕ). LeavesOnly (g.D.Disk.history c.sync.new.self) (g.D.Disk.history (opened_disk c.open_settled.result)) 4 (λ bytes. bytes ≡ l)) (same g c told)
-    (c.open_settled.ensures.only_read told (subst IsClosedArchive (sym (same g c told)) closed)))
+pub returns-clause-untouched : goal.returns-clause-untouched
+returns-clause-untouched g c told closed =
+    let d = g.D.Disk in
+    opening_keeps d.tells_content d.tells_images g.met.D.Disk.tells_both d.content d.history c.args.disk c.in_ok-read.field-0.disk (opened_disk c.settle.result) c.in_ok-read.field-0.entries
+    c.in_ok-read.ensures.content c.in_ok-read.ensures.held c.in_ok-read.ensures.any_moment c.settle.ensures.mends told closed
+
+pub returns-clause-only_read : goal.returns-clause-only_read
+returns-clause-only_read g c told closed =
+    let d = g.D.Disk in
+    opening_reads d.tells_content d.tells_images g.met.D.Disk.tells_both d.content d.history c.args.disk c.in_ok-read.field-0.disk (opened_disk c.settle.result) c.in_ok-read.field-0.entries
+    c.in_ok-read.ensures.content c.in_ok-read.ensures.held c.in_ok-read.ensures.any_moment c.settle.ensures.mends g.met.D.Disk.content_is_image told closed

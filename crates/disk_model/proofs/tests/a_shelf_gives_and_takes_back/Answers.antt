@@ -1,5 +1,0 @@
-use Rattle.disk_model.proofs.Places.{place_there}
-use Rattle.disk_model.proofs.tests.a_shelf_gives_and_takes_back.Goals as goal
-
-pub put_back-requires : goal.put_back-requires
-put_back-requires g c = record { was_out = place_there _ _ _ _ c.in-Ok.ensures.now_out }
