@@ -14,6 +14,3 @@ pub use error::LineError;
 pub use kind::kind_word;
 pub use reading::read_line;
 pub use writing::write_line;
-
-#[cfg(test)]
-mod tests;

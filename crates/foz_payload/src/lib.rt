@@ -16,6 +16,3 @@ pub use laws::one_meaning;
 pub use reading::state_of;
 pub use unreadable::Unreadable;
 pub use writing::payload_of;
-
-#[cfg(test)]
-mod tests;

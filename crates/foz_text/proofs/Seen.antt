@@ -2,11 +2,12 @@
 use Rattle.std.proofs.Common.{◌≡◌, Bool, true, false, not, Ok, Err, cond, ◌&&◌, ◌||◌, List, [], ◌∷◌, ◌++◌, is_none, Option, Some, None, refl, sym, ap, ◌∙◌}
 use Rattle.std.proofs.lemmas.List.Folds.{list_any-append}
 use Rattle.foz_words.specs.declared.key.Key.{Key}
+use Rattle.foz_words.specs.Key.{is_key}
 use Rattle.foz_entry.specs.declared.cut.Entry.{Entry}
 use Rattle.foz_entry.specs.declared.damage.EntryCause.{EntryCause}
 use Rattle.foz_entry.specs.Damage.{damage, ok_unless}
 use Rattle.foz_text.specs.declared.list_text.Soundness.TheVariants.{Sound, Duplicate}
-use Rattle.foz_text.specs.ListText.{holds, same_key, standing, standing_after}
+use Rattle.foz_text.specs.ListText.{holds, standing, standing_after}
 
 or_same : (held same : Bool) → cond same true held ≡ (held || ((same && true) || false))
 or_same true true = refl
@@ -49,19 +50,19 @@ is_known before entry added held undamaged is adds old = standing_is before entr
 
 module _ (before : List Entry) (entry : Entry) (key : Key) where
   abbrev hit : Entry → Bool
-  hit e = same_key e.head.key key && is_none (damage e.head e.payload)
+  hit e = is_key e.head.key key && is_none (damage e.head e.payload)
 
-  one_more : holds (before ++ entry ∷ []) key ≡ (holds before key || ((same_key entry.head.key key && is_none (damage entry.head entry.payload)) || false))
+  one_more : holds (before ++ entry ∷ []) key ≡ (holds before key || ((is_key entry.head.key key && is_none (damage entry.head entry.payload)) || false))
   one_more = list_any-append hit before (entry ∷ [])
 
   -- one more undamaged entry adds its key
-  pub after_undamaged : (held : Bool) → held ≡ holds before key → damage entry.head entry.payload ≡ None → cond (same_key entry.head.key key) true held ≡ holds (before ++ entry ∷ []) key
+  pub after_undamaged : (held : Bool) → held ≡ holds before key → damage entry.head entry.payload ≡ None → cond (is_key entry.head.key key) true held ≡ holds (before ++ entry ∷ []) key
   after_undamaged held is undamaged =
-      ap (cond (same_key entry.head.key key) true) is ∙ or_same (holds before key) (same_key entry.head.key key)
-      ∙ ap (λ (b : Bool). holds before key || ((same_key entry.head.key key && b) || false)) (sym (ap is_none undamaged)) ∙ sym one_more
+      ap (cond (is_key entry.head.key key) true) is ∙ or_same (holds before key) (is_key entry.head.key key)
+      ∙ ap (λ (b : Bool). holds before key || ((is_key entry.head.key key && b) || false)) (sym (ap is_none undamaged)) ∙ sym one_more
 
   -- a damaged one adds none
   pub after_damaged : (held : Bool) → held ≡ holds before key → is_none (damage entry.head entry.payload) ≡ false → held ≡ holds (before ++ entry ∷ []) key
   after_damaged held is damaged =
-      is ∙ or_none (holds before key) (same_key entry.head.key key)
-      ∙ ap (λ (b : Bool). holds before key || ((same_key entry.head.key key && b) || false)) (sym damaged) ∙ sym one_more
+      is ∙ or_none (holds before key) (is_key entry.head.key key)
+      ∙ ap (λ (b : Bool). holds before key || ((is_key entry.head.key key && b) || false)) (sym damaged) ∙ sym one_more

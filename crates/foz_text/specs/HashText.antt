@@ -10,9 +10,13 @@ use Rattle.capture_lines.specs.Line.{line_meaning}
 use Rattle.input_lines.specs.Lines.{lines_of}
 use Rattle.foz_text.specs.LineCause.{line_cause_text}
 
--- the number of the state's line, the word of its kind and its hash
+-- the number of a line, the word of a kind and a hash
+abbrev pub hash_words : ℕ → List ℕ → ℕ → List ℕ
+hash_words number kind hash = decimal number ++ codes " " ++ kind ++ codes " " ++ hex_text 16 hash ++ codes "\n"
+
+-- the line of a state
 abbrev pub hashed_line : ℕ → State → List ℕ
-hashed_line number state = decimal number ++ codes " " ++ word_of (kind_of_state state) ++ codes " " ++ hex_text 16 (key_of state).hash ++ codes "\n"
+hashed_line number state = hash_words number (word_of (kind_of_state state)) (key_of state).hash
 
 -- the number of a line that can't be read, and why
 abbrev pub unhashed_line : ℕ → LineError → List ℕ

@@ -1,9 +1,10 @@
 -- The text of the command `list`.
-use Rattle.std.specs.Prelude.{◌≡◌, ℕ, ◌-◌, ◌==◌, ◌&&◌, Bool, true, false, if◌then◌else◌, List, [], ◌∷◌, ◌++◌, length, codes, decimal, Option, Some, None, is_none}
+use Rattle.std.specs.Prelude.{◌≡◌, ℕ, ◌-◌, ◌&&◌, Bool, true, false, if◌then◌else◌, List, [], ◌∷◌, ◌++◌, length, codes, decimal, Option, Some, None, is_none}
 use Rattle.std.specs.List.{list_any}
 use Rattle.std.specs.HashSet.{HashSet, contains}
 use Rattle.foz_words.specs.Hex.{hex_text}
 use Rattle.foz_words.specs.declared.key.Key.{Key}
+use Rattle.foz_words.specs.Key.{is_key}
 use Rattle.foz_entry.specs.declared.cut.Entry.{Entry}
 use Rattle.foz_entry.specs.declared.damage.EntryCause.{EntryCause}
 use Rattle.foz_entry.specs.Damage.{damage}
@@ -12,12 +13,9 @@ use Rattle.foz_text.specs.declared.list_text.Soundness.{Soundness}
 use Rattle.foz_text.specs.declared.list_text.Soundness.TheVariants.{Sound, Duplicate, Damaged}
 use Rattle.foz_archive.specs.declared.scanned.Scanned.{Scanned}
 
-abbrev pub same_key : Key → Key → Bool
-same_key j k = j.tag == k.tag && j.hash == k.hash
-
 -- an undamaged entry has the key
 abbrev pub holds : List Entry → Key → Bool
-holds entries key = list_any (λ (entry : Entry). same_key entry.head.key key && is_none (damage entry.head entry.payload)) entries
+holds entries key = list_any (λ (entry : Entry). is_key entry.head.key key && is_none (damage entry.head entry.payload)) entries
 
 -- the set has exactly the keys of undamaged entries
 abbrev pub AreKeysHeld : {S : Type 0} → (Key → Key → Bool) → HashSet Key S → List Entry → Type 0

@@ -3,7 +3,7 @@ ghost use Rattle.std.specs.Prelude.{◌≡◌, ◌<◌, ◌^◌, ◌++◌, lengt
 ghost use Rattle.state_words.specs.Words.{IsOrdinaryState};
 ghost use Rattle.capture_lines.specs.Line.{line_meaning};
 ghost use Rattle.report_words.specs.Fronts.{BeginsWith};
-ghost use Rattle.foz_text.specs.HashText.{hashed_line, hash_line, hash_text, is_read, is_readable};
+ghost use Rattle.foz_text.specs.HashText.{hash_words, hashed_line, hash_line, hash_text, is_read, is_readable};
 
 use crate::record_text::push_refused;
 use capture_lines::{LineError, kind_word, read_line};
@@ -20,7 +20,21 @@ fn push_hashed(alloc: Global, out: &mut Vec<u8>, number: u32, state: &State) -> 
     ensures line { OnOk result (out.new.items ≡ out.old.items ++ hashed_line number state.now) }
     ensures refused { OnErr result (out.new.items ≡ out.old.items) }
 {
-    let (kind, hash) = (kind_word(state), Hash(key_of(state).hash));
+    push_words(alloc, out, number, kind_word(state), key_of(state).hash)
+}
+
+/// Adds the line of a kind and a hash. It knows no state, so that nothing of one is unfolded where the text is proved.
+fn push_words(
+    alloc: Global,
+    out: &mut Vec<u8>,
+    number: u32,
+    kind: &str,
+    hash: u64,
+) -> Result<(), NoMemory>
+    ensures line { OnOk result (out.new.items ≡ out.old.items ++ hash_words number kind.now hash) }
+    ensures refused { OnErr result (out.new.items ≡ out.old.items) }
+{
+    let hash = Hash(hash);
     let text = format!(in alloc; "{number} {kind} {hash}\n")?;
     out.extend_from_slice(text.as_bytes())?;
     Ok(())

@@ -23,35 +23,52 @@ impl CauseText for At {
 
 const KEY: Key = Key { tag: 7, hash: 0xAB };
 
-#[test]
-fn a_record_has_a_line_for_each_answer(rt: HostRuntime) -> Result<(), Fail> {
-    let alloc = rt.alloc();
-    let replies = [
-        RecordReply::New { index: 4 },
-        RecordReply::Known { index: 4 },
-        RecordReply::Known { index: 0 },
-        RecordReply::Collision { index: 4 },
-        RecordReply::TooLarge { size: 16_777_217 },
+// The lines of a capture, and what they are answered.
+const REPLIES: &[(u32, RecordReply)] = &[
+    (1, RecordReply::New { index: 4 }),
+    (2, RecordReply::Known { index: 4 }),
+    (3, RecordReply::Known { index: 0 }),
+    (4, RecordReply::Collision { index: 4 }),
+    (5, RecordReply::TooLarge { size: 16_777_217 }),
+    (
+        6,
         RecordReply::Full {
             end: 268_435_456,
             need: 56,
         },
-        RecordReply::TooMany { count: 1_048_576 },
-    ];
+    ),
+    (7, RecordReply::TooMany { count: 1_048_576 }),
+];
+
+/// The replies, and a line that is refused.
+fn answers(alloc: Global) -> Result<Vec<Answered<At>>, Fail> {
     let mut answers = Vec::new(alloc);
-    for (place, reply) in replies.into_iter().enumerate() {
+    for (line, reply) in REPLIES {
         answers.push(Answered {
-            line: place as u32 + 1,
-            answer: LineAnswer::Replied { key: KEY, reply },
+            line: *line,
+            answer: LineAnswer::Replied {
+                key: KEY,
+                reply: *reply,
+            },
         })?;
     }
     answers.push(Answered {
         line: 10,
         answer: LineAnswer::Refused(At(17)),
     })?;
+    Ok(answers)
+}
+
+fn text_of(alloc: Global, answers: &[Answered<At>]) -> Result<Vec<u8>, Fail> {
     let mut text = Vec::from_slice(alloc, b"before\n")?;
-    let pushed = push_record(alloc, &mut text, &answers, 5);
-    assert_eq!(rt; pushed, Ok(()));
+    push_record(alloc, &mut text, answers, 5)?;
+    Ok(text)
+}
+
+#[test]
+fn a_record_has_a_line_for_each_answer(rt: HostRuntime) -> Result<(), Fail> {
+    let answers = answers(rt.alloc())?;
+    let text = text_of(rt.alloc(), &answers)?;
     assert_eq!(rt;
         str::from_utf8(&text)?,
         "before\n\

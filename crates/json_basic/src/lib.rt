@@ -7,6 +7,3 @@ mod set_layout;
 
 /// This crate, for its `impl`s of `Json`.
 pub struct Basic;
-
-#[cfg(test)]
-mod tests;

@@ -1,15 +1,15 @@
 ghost use Rattle.std.specs.Prelude.{◌≡◌, map};
-ghost use Rattle.serde_json.specs.View.{view};
+ghost use Rattle.serde_json.specs.View.{view, items_of};
 ghost use Rattle.serde_json.specs.Find.{get};
 ghost use Rattle.vk_form.specs.Shape.{number, unit, hash, four_units, list, struct};
 ghost use Rattle.json_fold.specs.Fault.{Reads, member_path, item_path};
-ghost use Rattle.json_fold.specs.Reading.{reading, missing, or_missing};
+ghost use Rattle.json_fold.specs.Reading.{reading, missing, or_missing, each, four_of};
 
 use crate::fault::{FieldCause, FieldError};
 use crate::json::Json;
 use crate::members::list_of;
 use crate::{leaf, path};
-use foz_words::{Row, Unit};
+use foz_words::{Name, Row, Unit};
 use serde_json::Value;
 use std::alloc::Global;
 
@@ -25,9 +25,15 @@ pub fn numbers_of(
 {
     let items = list_of(alloc, object, member, path)?;
     let at = path::join(alloc, path, member)?;
+    numbers_in(alloc, items, at.as_str())
+}
+
+fn numbers_in(alloc: Global, items: &[Value], at: &str) -> Result<Row<u32>, FieldError>
+    ensures { Reads (λ x. x) result (each (reading number) (items_of (map view items.now)) 0 at.now) }
+{
     let mut row = Row::new(alloc);
     for (place, item) in items.iter().enumerate() {
-        row.push(number_at(alloc, item, at.as_str(), place)?)?;
+        row.push(number_at(alloc, item, at, place)?)?;
     }
     Ok(row)
 }
@@ -44,9 +50,15 @@ pub fn refs_of(
 {
     let items = list_of(alloc, object, member, path)?;
     let at = path::join(alloc, path, member)?;
+    refs_in(alloc, items, at.as_str())
+}
+
+fn refs_in(alloc: Global, items: &[Value], at: &str) -> Result<Row<u64>, FieldError>
+    ensures { Reads (λ x. x) result (each (reading hash) (items_of (map view items.now)) 0 at.now) }
+{
     let mut row = Row::new(alloc);
     for (place, item) in items.iter().enumerate() {
-        row.push(hash_at(alloc, item, at.as_str(), place)?)?;
+        row.push(hash_at(alloc, item, at, place)?)?;
     }
     Ok(row)
 }
@@ -63,9 +75,19 @@ pub fn structures_of<Crate, S: Json<Crate>>(
 {
     let items = list_of(alloc, object, member, path)?;
     let at = path::join(alloc, path, member)?;
+    structures_in(alloc, items, at.as_str())
+}
+
+fn structures_in<Crate, S: Json<Crate>>(
+    alloc: Global,
+    items: &[Value],
+    at: &str,
+) -> Result<Row<S>, FieldError>
+    ensures { Reads (map S.plain) result (each (reading (struct S.fields)) (items_of (map view items.now)) 0 at.now) }
+{
     let mut row = Row::new(alloc);
     for (place, item) in items.iter().enumerate() {
-        row.push(structure_at(alloc, item, at.as_str(), place)?)?;
+        row.push(structure_at(alloc, item, at, place)?)?;
     }
     Ok(row)
 }
@@ -119,7 +141,6 @@ fn unit_at(alloc: Global, item: &Value, at: &str, place: usize) -> Result<Unit, 
 }
 
 /// Four units in one list; four zeros where it is missing.
-#[tactic(auto, using(crate::proofs::Loop::four_of_other))]
 pub fn four_units_of(
     alloc: Global,
     object: &Value,
@@ -134,18 +155,28 @@ pub fn four_units_of(
     }
     let items = list_of(alloc, object, member, path)?;
     let at = path::join(alloc, path, member)?;
-    if items.len() != 4 {
+    four_units_in(alloc, items, at.as_str())
+}
+
+/// The units of a list, which has to have four.
+#[tactic(auto, using(crate::proofs::Loop::four_of_other))]
+fn four_units_in(
+    alloc: Global,
+    items: &[Value],
+    at: &str,
+) -> Result<(Unit, Unit, Unit, Unit), FieldError>
+    ensures { Reads (λ u. (u.0, (u.1, (u.2, u.3)))) result (four_of (items_of (map view items.now)) at.now) }
+{
+    let [a, b, c, d] = items else {
+        let path = Name::from_string(String::from_str(alloc, at)?);
         return Err(FieldError::Bad {
-            path: at,
+            path,
             cause: FieldCause::BadLength,
         });
-    }
-    let [a, b, c, d] = items else {
-        unreachable!();
     };
-    let a = unit_at(alloc, a, at.as_str(), 0)?;
-    let b = unit_at(alloc, b, at.as_str(), 1)?;
-    let c = unit_at(alloc, c, at.as_str(), 2)?;
-    let d = unit_at(alloc, d, at.as_str(), 3)?;
+    let a = unit_at(alloc, a, at, 0)?;
+    let b = unit_at(alloc, b, at, 1)?;
+    let c = unit_at(alloc, c, at, 2)?;
+    let d = unit_at(alloc, d, at, 3)?;
     Ok((a, b, c, d))
 }

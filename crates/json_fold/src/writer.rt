@@ -108,7 +108,7 @@ impl ObjectWriter {
     {
         let mut values = Vec::new(self.alloc);
         for n in items.as_slice() {
-            values.push(Value::from(*n))?;
+            values.push(number_value(*n))?;
         }
         self.member(name, Value::from(values))
     }
@@ -153,7 +153,7 @@ impl ObjectWriter {
     {
         let mut values = Vec::new(self.alloc);
         for item in items.as_slice() {
-            values.push(item.to_json(self.alloc)?)?;
+            values.push(object_of(self.alloc, item)?)?;
         }
         self.member(name, Value::from(values))
     }
@@ -188,9 +188,24 @@ impl ObjectWriter {
     }
 }
 
+fn number_value(n: u32) -> Value
+    ensures written { view result ≡ written number n }
+    ensures in_range { IsInRange number n }
+{
+    Value::from(n)
+}
+
 fn hash_value(alloc: Global, h: u64) -> Result<Value, NoMemory>
     ensures written { IfOk result (λ v. view v ≡ written hash h) }
     ensures in_range { IsInRange hash h }
 {
     Ok(Value::from(hash_text(alloc, h)?))
+}
+
+/// The object of a structure, with no more than a list of them asks for.
+fn object_of<Crate, S: Json<Crate>>(alloc: Global, item: &S) -> Result<Value, NoMemory>
+    ensures written { IfOk result (λ v. view v ≡ written (struct S.fields) (S.plain item.now)) }
+    ensures in_range { OnOk result (AreInRange S.fields (S.plain item.now)) }
+{
+    item.to_json(alloc)
 }

@@ -12,6 +12,3 @@ mod viewport;
 
 /// This crate, for its `impl`s of `Json`.
 pub struct Pipe;
-
-#[cfg(test)]
-mod tests;

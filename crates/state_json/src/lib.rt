@@ -9,6 +9,3 @@ mod text;
 pub use kind::JsonKind;
 pub use states::{state_from, value_of};
 pub use text::{ParseError, parse};
-
-#[cfg(test)]
-mod tests;

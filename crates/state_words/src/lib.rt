@@ -10,6 +10,3 @@ pub use key::{key_of, words_of};
 pub use law::words_tell_states;
 pub use references::refs_of;
 pub use state::State;
-
-#[cfg(test)]
-mod tests;

@@ -5,7 +5,7 @@ use Rattle.state_json.specs.Parsed.{parsed}
 use Rattle.capture_lines.specs.Line.{as_some, cut_meaning, kind_meaning, text_meaning, value_meaning}
 use Rattle.capture_lines.specs.declared.kind.LineKind.{LineKind}
 use Rattle.capture_lines.proofs.Refusals.{skipped_line, cut_line, kind_line, text_refused, line_refused}
-use Rattle.capture_lines.proofs.Ordinary.{line_ordinary}
+use Rattle.capture_lines.proofs.Ordinary.{line_ordinary, line_few}
 use Rattle.capture_lines.proofs.reading.read_line.Goals as goal
 
 pub returns-then-is_skipped-clause-meant : goal.returns-then-is_skipped-clause-meant
@@ -52,3 +52,7 @@ returns-clause-meant c =
 pub returns-clause-ordinary : goal.returns-clause-ordinary
 returns-clause-ordinary c = λ short.
     line_ordinary c.args.line.now c.in-Some.word.now c.in-Some.text.now c.in-Some-kind_of.kind (view c.in_ok-value.value) _ (sym c.in-Some.ensures) c.in_ok-value.ensures c.in_ok-state_of.ensures short
+
+pub returns-clause-few : goal.returns-clause-few
+returns-clause-few c = λ short.
+    line_few c.args.line.now c.in-Some.word.now c.in-Some.text.now c.in-Some-kind_of.kind (view c.in_ok-value.value) _ (sym c.in-Some.ensures) c.in_ok-value.ensures c.in_ok-state_of.ensures short

@@ -2,7 +2,7 @@ use Rattle.std.proofs.Common.{◌≡◌}
 use Rattle.vk_form.specs.Shape.{number}
 use Rattle.json_fold.specs.Reading.{reading}
 use Rattle.json_fold.proofs.Loop.{with_front, each_from}
-use Rattle.json_fold.proofs.lists.numbers_of.Given as goal
+use Rattle.json_fold.proofs.lists.numbers_in.Given as goal
 
 abbrev pub invariant-loop-place : goal.invariant-loop-place
 invariant-loop-place l = with_front l.row (each_from (reading number) l.items l.place l.at) ≡ each_from (reading number) l.items 0 l.at
