@@ -10,7 +10,7 @@ use Rattle.replay_core.specs.declared.event.Event.TheVariants.{Start, Reply, Dea
 use Rattle.replay_core.specs.declared.event.SlotState.TheVariants.{Idle as AtRest, Holds}
 use Rattle.replay_core.specs.declared.answer.Next.TheVariants.{Finished, Work, Idle}
 use Rattle.replay_core.specs.Plans.{items_of}
-use Rattle.replay_core.specs.Runs.{Setup, slot_at, IsRun, GoesOn}
+use Rattle.replay_core.specs.Runs.{Setup, setup_of, slot_at, IsRun, GoesOn}
 use Rattle.replay_core.specs.Histories.{History, with_events, at_first, room_of}
 use Rattle.replay_core.specs.Turns.{IsMiss, AddsMisses, TakesTurn}
 use Rattle.replay_core.proofs.Steps.{GoesOn-append, run_push, slot_at-nil, slot_at-push}
@@ -38,7 +38,7 @@ module _ {M : Type 0} (creates : M → Key → State → ℕ → M → Type 0) (
 
   -- between two items
   pub record IsGoing (graph : Graph) (core : History) (now : M) : Type 0 where
-    pub setup : core.setup ≡ record { plan = graph.plan; slots = 1 }
+    pub setup : core.setup ≡ setup_of graph.plan 1
     pub run : IsRun core.setup core.events
     pub idle : slot_at core.events 0 ≡ AtRest
     pub driven : Drives creates before entries graph.classes core.events now
@@ -87,7 +87,7 @@ module _ {M : Type 0} (creates : M → Key → State → ℕ → M → Type 0) (
   going_on graph core mid new now after item code g t holds answered is =
       let between = after_misses graph core t.between now g t.misses in
       let mid_is = t.told.1 in
-      let setup : mid.setup ≡ record { plan = graph.plan; slots = 1 } = ap (λ (h : History). h.setup) mid_is ∙ between.setup in
+      let setup : mid.setup ≡ setup_of graph.plan 1 = ap (λ (h : History). h.setup) mid_is ∙ between.setup in
       let run = subst (λ (h : History). IsRun h.setup h.events) (sym mid_is) (run_push t.between.setup t.between.events (Start 0 item) between.run t.told.0) in
       let driven = subst (λ (h : History). Drives creates before entries graph.classes h.events now) (sym mid_is) (starts t.between.events now 0 item between.driven) in
       let slots = ap (λ (s : Setup). s.slots) setup in

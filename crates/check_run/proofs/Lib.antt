@@ -1,3 +1,3 @@
-pub mod Picked
 pub mod Driven
 pub mod Answered
+pub mod Fated

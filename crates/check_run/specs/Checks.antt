@@ -1,23 +1,17 @@
 -- A replay by one slot whose items a driver answers.
 use Rattle.std.specs.Prelude.{ℕ, ◌≡◌, List, [], ◌∷◌, ◌++◌, slice_get, Some}
-use Rattle.std.specs.List.{AllZip}
 use Rattle.foz_words.specs.declared.key.Key.{Key}
 use Rattle.foz_entry.specs.declared.cut.Entry.{Entry}
 use Rattle.state_words.specs.declared.state.State.{State}
 use Rattle.replay_core.specs.declared.event.Event.{Event}
 use Rattle.replay_core.specs.declared.event.Event.TheVariants.{Start, Reply, Miss}
-use Rattle.replay_core.specs.Runs.{IsRun, AllDecided}
+use Rattle.replay_core.specs.Runs.{setup_of, IsRun, AllDecided}
 use Rattle.replay_core.specs.Histories.{History}
 use Rattle.dep_graph.specs.declared.class.Class.{Class}
 use Rattle.dep_graph.specs.declared.graph.Graph.{Graph}
-use Rattle.dep_graph.specs.Classes.{AreClassesOf, HoldsState}
-use Rattle.dep_graph.specs.Items.{item_places, item_entries, item_keys, DependsAs}
-
--- the graph of these entries
-pub record IsGraphOf (entries : List Entry) (graph : Graph) : Type 0 where
-  pub classes : AreClassesOf entries graph.classes
-  pub items : graph.items ≡ item_places graph.classes
-  pub deps : AllZip (DependsAs (item_keys entries graph.classes)) (item_entries entries graph.classes) graph.plan.deps
+use Rattle.dep_graph.specs.Classes.{HoldsState}
+use Rattle.dep_graph.specs.Items.{item_entries}
+use Rattle.dep_graph.specs.Graphs.{IsGraphOf}
 
 -- the driver was called for the state of the item's entry, and answered this code
 pub record IsAnswered {M : Type 0} (creates : M → Key → State → ℕ → M → Type 0) (before : M) (entries : List Entry) (classes : List Class) (item code : ℕ) (after : M) : Type 0 where
@@ -41,7 +35,7 @@ pub data Drives {M : Type 0} (creates : M → Key → State → ℕ → M → Ty
 
 -- a run of the graph's plan on one slot that ends with each item decided, whose replies are the driver's
 pub record IsReplay {M : Type 0} (creates : M → Key → State → ℕ → M → Type 0) (before : M) (entries : List Entry) (graph : Graph) (core : History) (after : M) : Type 0 where
-  pub setup : core.setup ≡ record { plan = graph.plan; slots = 1 }
+  pub setup : core.setup ≡ setup_of graph.plan 1
   pub run : IsRun core.setup core.events
   pub decided : AllDecided core.setup core.events
   pub driven : Drives creates before entries graph.classes core.events after

@@ -1,6 +1,6 @@
 ghost use Rattle.std.specs.Prelude.{◌≤◌, length, All, IfOk};
 ghost use Rattle.foz_entry.specs.declared.cut.Entry.{Entry};
-ghost use Rattle.record_words.specs.Entries.{most_entries};
+ghost use Rattle.foz_entry.specs.Limits.{count_limit};
 ghost use Rattle.dep_graph.specs.Items.{HasItsSize};
 ghost use Rattle.check_run.specs.Checks.{IsCheck};
 
@@ -26,7 +26,7 @@ pub fn check_entries<R: Driver>(
     entries: &[Entry],
     driver: &mut R,
 ) -> Result<Checked, NoMemory>
-    requires few { length entries.now ≤ most_entries }
+    requires few { length entries.now ≤ count_limit }
     requires sized { All HasItsSize entries.now }
     ensures { IfOk result (λ checked. IsCheck R.creates (R.meaning driver.old) entries.now checked.graph checked.core (R.meaning driver.new)) }
 {

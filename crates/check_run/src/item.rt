@@ -1,8 +1,10 @@
 //! One item is given to the driver.
-ghost use Rattle.std.specs.Prelude.{◌<◌, length, IfOk};
-ghost use Rattle.check_run.specs.Checks.{IsGraphOf, IsAnswered};
+ghost use Rattle.std.specs.Prelude.{◌<◌, IfOk};
+ghost use Rattle.replay_core.specs.Plans.{items_of};
+ghost use Rattle.dep_graph.specs.Graphs.{IsPlanOf};
+ghost use Rattle.check_run.specs.Checks.{IsAnswered};
 
-use dep_graph::Graph;
+use dep_graph::{Graph, item_entry};
 use driver_check::Driver;
 use foz_entry::Entry;
 use foz_payload::state_of;
@@ -18,20 +20,15 @@ pub(crate) fn answer<R: Driver>(
     item: u32,
     driver: &mut R,
 ) -> Result<u32, NoMemory>
-    requires graph { IsGraphOf entries.now graph.now }
-    requires inside { item < length graph.now.items }
+    requires plan { IsPlanOf entries.now graph.now }
+    requires inside { item < items_of graph.now.plan }
     ensures { IfOk result (λ code. IsAnswered R.creates (R.meaning driver.old) entries.now graph.now.classes item code (R.meaning driver.new)) }
 {
-    let Some(place) = graph.items.as_slice().get(item as usize) else {
-        unreachable!()
-    };
-    let Some(entry) = entries.get(*place as usize) else {
-        unreachable!()
-    };
+    let entry = item_entry(graph, entries, item);
     let key = entry.head.key;
     match state_of(alloc, key, entry.payload.as_slice()) {
         Ok(state) => driver.create(alloc, key, state),
-        // An item's payload can be read, so this is want of memory.
+        // An item's payload can be read, so memory ran out.
         Err(cause) => {
             drop(cause);
             Err(NoMemory)

@@ -3,9 +3,11 @@
 
 mod checked;
 mod item;
+mod laws;
 mod run;
 
 pub use checked::{Checked, check_entries};
+pub use laws::verdicts_are_fates_of_codes;
 
 #[cfg(test)]
 mod tests;

@@ -1,7 +1,8 @@
 //! One slot takes item after item.
 ghost use Rattle.std.specs.Prelude.{◌≡◌, OnOk};
 ghost use Rattle.replay_core.specs.Histories.{at_first, IsPlan};
-ghost use Rattle.check_run.specs.Checks.{IsGraphOf, IsReplay};
+ghost use Rattle.dep_graph.specs.Graphs.{IsPlanOf};
+ghost use Rattle.check_run.specs.Checks.{IsReplay};
 
 use crate::item::answer;
 use dep_graph::Graph;
@@ -19,7 +20,7 @@ pub(crate) fn run_items<R: Driver>(
     core: &mut Core,
     driver: &mut R,
 ) -> Result<(), NoMemory>
-    requires graph { IsGraphOf entries.now graph.now }
+    requires plan { IsPlanOf entries.now graph.now }
     requires first { core.old ≡ at_first graph.now.plan 1 }
     ensures { OnOk result (IsReplay R.creates (R.meaning driver.old) entries.now graph.now core.new (R.meaning driver.new)) }
 {
@@ -30,8 +31,6 @@ pub(crate) fn run_items<R: Driver>(
             Next::Work { item } => {
                 let code = answer(alloc, entries, graph, item, driver)?;
                 core.reply(0, code);
-                // The events never pass their room, so this comes to an end.
-                let _ = core.room();
             }
         }
     }

@@ -1,7 +1,7 @@
 ghost use Rattle.std.specs.Prelude.{IfOk};
 ghost use Rattle.dep_graph.specs.Items.{HasItsSize};
 
-use crate::check_entries;
+use crate::{Checked, check_entries};
 use driver_check::{CheckDriver, Driver};
 use foz_entry::{Entry, stored_head};
 use foz_words::{Key, NoMemory, Row};
@@ -9,6 +9,7 @@ use replay_core::Verdict;
 use state_words::State;
 use std::alloc::Global;
 use std::mem::drop;
+use std::process::Abort;
 use std::test::Fail;
 
 const LAYOUT: &[u8] = b"{\"pipelineLayouts\":{\"0000000000000003\":{}},\"version\":6}";
@@ -17,9 +18,8 @@ const LAYOUT: &[u8] = b"{\"pipelineLayouts\":{\"0000000000000003\":{}},\"version
 const SETS: &[u8] =
     b"{\"pipelineLayouts\":{\"0000000000000004\":{\"setLayouts\":[\"0000000000000002\"]}},\"version\":6}";
 
-const fn key(tag: u32, hash: u64) -> Key {
-    Key { tag, hash }
-}
+/// An entry of a case: the tag and the hash of its key, and its payload.
+type Case = (u32, u64, &'static [u8]);
 
 /// An undamaged entry.
 fn entry(alloc: Global, key: Key, payload: &[u8]) -> Result<Entry, Fail>
@@ -54,33 +54,45 @@ impl Driver for Counter {
     }
 }
 
-#[test]
-fn nothing_is_replayed_of_an_empty_archive(rt: HostRuntime) -> Result<(), Fail> {
-    let alloc = rt.alloc();
-    let mut driver = CheckDriver::new(alloc);
-    let checked = check_entries(alloc, &[], &mut driver)?;
-    assert_eq!(rt; checked.core.events().len(), 0);
-    assert_eq!(rt; checked.core.verdicts().len(), 0);
-    Ok(())
+/// Replays the entries of these cases.
+fn checked<R: Driver>(alloc: Global, cases: &[Case], driver: &mut R) -> Result<Checked, Fail> {
+    let mut entries = Vec::new(alloc);
+    for (tag, hash, payload) in cases {
+        let key = Key {
+            tag: *tag,
+            hash: *hash,
+        };
+        entries.push(entry(alloc, key, payload)?)?;
+    }
+    if entries.len() > 1_048_576 {
+        return Err(Fail::new("too many entries"));
+    }
+    Ok(check_entries(alloc, &entries, driver)?)
+}
+
+fn verdicts_are(rt: &impl Abort, checked: &Checked, events: usize, wanted: &[Option<Verdict>]) {
+    assert_eq!(rt; checked.core.verdicts(), wanted);
+    assert_eq!(rt; checked.core.events().len(), events);
 }
 
 #[test]
-fn what_stands_on_nothing_is_given_to_the_driver_and_the_rest_is_missing(
+fn nothing_is_replayed_of_an_empty_archive(rt: HostRuntime) -> Result<(), Fail> {
+    let mut driver = CheckDriver::new(rt.alloc());
+    let checked = checked(rt.alloc(), &[], &mut driver)?;
+    verdicts_are(&rt, &checked, 0, &[]);
+    Ok(())
+}
+
+const CASES: [Case; 3] = [(3, 3, LAYOUT), (3, 4, SETS), (3, 3, LAYOUT)];
+
+#[test]
+fn what_depends_on_nothing_is_given_to_the_driver_and_the_rest_is_missing(
     rt: HostRuntime,
 ) -> Result<(), Fail> {
-    let alloc = rt.alloc();
-    let entries = [
-        entry(alloc, key(3, 3), LAYOUT)?,
-        entry(alloc, key(3, 4), SETS)?,
-        entry(alloc, key(3, 3), LAYOUT)?,
-    ];
     let mut driver = Counter { calls: 5 };
-    let checked = check_entries(alloc, &entries, &mut driver)?;
-    assert_eq!(rt;
-        checked.core.verdicts(),
-        [Some(Verdict::Done(5)), Some(Verdict::Missing(0))].as_slice()
-    );
+    let checked = checked(rt.alloc(), &CASES, &mut driver)?;
+    let wanted = [Some(Verdict::Done(5)), Some(Verdict::Missing(0))];
+    verdicts_are(&rt, &checked, 3, &wanted);
     assert_eq!(rt; driver.calls, 6);
-    assert_eq!(rt; checked.core.events().len(), 3);
     Ok(())
 }

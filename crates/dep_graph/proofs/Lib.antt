@@ -4,3 +4,4 @@ pub mod Indexed
 pub mod Numbers
 pub mod Surveyed
 pub mod Planned
+pub mod Picked

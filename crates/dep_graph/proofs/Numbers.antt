@@ -1,20 +1,22 @@
 -- The numbers of the items that hold a key, with one entry more.
-use Rattle.std.proofs.Common.{◌≡◌, ℕ, ◌<◌, ◌≤◌, get_or, Bool, true, false, List, [], ◌∷◌, ◌++◌, length, map, Option, Some, None, refl, sym, ap, ◌∙◌, subst, cond, arith}
-use Rattle.std.specs.Prelude.{position, slice_get, option_and_then}
+use Rattle.std.proofs.Common.{◌≡◌, ℕ, ◌<◌, ◌≤◌, get_or, Bool, true, false, List, [], ◌∷◌, ◌++◌, length, Option, Some, None, refl, sym, ap, ◌∙◌, subst}
+use Rattle.std.specs.Prelude.{option_and_then}
 use Rattle.std.proofs.lemmas.Option.{slice_get-get_or, slice_get_past}
+use Rattle.foz_words.specs.Key.{is_key}
 use Rattle.foz_words.specs.declared.key.Key.{Key}
 use Rattle.foz_entry.specs.declared.cut.Entry.{Entry}
-use Rattle.record_words.specs.Entries.{is_key, is_undamaged, holds_key, holder}
+use Rattle.record_words.specs.Entries.{holds_key, holder}
+use Rattle.record_words.specs.Index.{IsFirstOfKey}
+use Rattle.record_words.proofs.Holders.{key_same}
 use Rattle.record_words.proofs.Rows.{holder_push, holder_below, first_or}
-use Rattle.replay_core.specs.declared.plan.Dep.TheVariants as dep
 use Rattle.replay_core.specs.declared.plan.Dep.TheVariants.{Absent}
 use Rattle.dep_graph.specs.Items.{dep_from}
 use Rattle.dep_graph.specs.declared.class.Class.{Class}
 use Rattle.dep_graph.specs.declared.class.Class.TheVariants.{Damaged, Duplicate, Kept, Unreadable, Item}
-use Rattle.dep_graph.specs.Classes.{is_item, IsFirstOfKey}
+use Rattle.dep_graph.specs.Classes.{is_item}
 use Rattle.dep_graph.specs.Surveys.{number_of, number_in, number_held, dep_held}
-use Rattle.dep_graph.proofs.Lists.{first_alone, position_push, got_before, got_last}
-use Rattle.dep_graph.proofs.Indexed.{key_same, sound_push}
+use Rattle.dep_graph.proofs.Lists.{first_alone, got_before, got_last}
+use Rattle.dep_graph.proofs.Indexed.{sound_push}
 
 abbrev pub number_at : List Class → Option ℕ → Option ℕ
 number_at classes held = option_and_then (number_in classes) held
@@ -65,6 +67,10 @@ module _ (before : List Entry) (entry : Entry) (classes : List Class) (long : le
       (λ t. subst (λ (z : Key). holder z before ≡ None) (sym (key_same key entry.head.key t)) first.first) refl
 
 module _ (entries : List Entry) (classes : List Class) (key : Key) where
+  pub none_number : holder key entries ≡ None → number_held entries classes key ≡ None
+  unfolding number_held
+  none_number e = ap (number_at classes) e
+
   pub none_holds : holder key entries ≡ None → Absent key ≡ dep_held entries classes key
   unfolding number_held
   none_holds e = sym (ap (λ (held : Option ℕ). dep_from (number_at classes held) key) e)

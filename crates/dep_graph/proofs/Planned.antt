@@ -1,30 +1,29 @@
 -- The plan of a survey.
-use Rattle.std.proofs.Common.{◌≡◌, ℕ, ◌<◌, ◌≤◌, ◌^◌, ◌==◌, zero, suc, Bool, true, false, if◌then◌else◌, nat_le, List, [], ◌∷◌, length, map, get_or, Option, Some, None, refl, sym, ap, ◌∙◌, subst, arith}
+use Rattle.std.proofs.Common.{◌≡◌, ℕ, ◌<◌, ◌≤◌, ◌^◌, ◌==◌, zero, suc, Bool, true, false, if◌then◌else◌, nat_le, List, [], ◌∷◌, length, map, Option, Some, None, refl, sym, ap, ◌∙◌, subst, arith}
 use Rattle.std.specs.Prelude.{All, position, count_by}
 use Rattle.std.specs.List.{AllZip, items_where_true}
 use Rattle.std.specs.Option.{is_none}
 use Rattle.std.proofs.lemmas.Bool.Decides.{nat_tests}
 use Rattle.std.proofs.lemmas.Grind.{get_or_picked}
 use Rattle.std.proofs.lemmas.List.{length-map}
-use Rattle.std.proofs.lemmas.List.Elements.{length_all_zip}
 use Rattle.std.proofs.lemmas.List.Quantifiers.{position-Some}
 use Rattle.std.proofs.lemmas.List.Sums.{count_by-le-length}
 use Rattle.std.proofs.lemmas.Slice.Zip.{AllZip-long}
+use Rattle.foz_words.specs.Key.{is_key}
 use Rattle.foz_words.specs.declared.key.Key.{Key}
 use Rattle.foz_words.specs.contracts.key.KeyPartialEq.TheImpl as KeyPartialEq
 use Rattle.foz_entry.specs.declared.cut.Entry.{Entry}
 use Rattle.foz_entry.specs.declared.cut.Cut.{Cut}
-use Rattle.foz_entry.specs.declared.damage.EntryCause.{EntryCause}
 use Rattle.foz_entry.specs.declared.damage.EntryCause.TheVariants.{Deflate, BadFormat, TooLarge, SizeDiffers}
-use Rattle.foz_entry.specs.Damage.{payload_limit, damage, checksum_damage}
+use Rattle.foz_entry.specs.Damage.{damage, checksum_damage}
+use Rattle.foz_entry.specs.Limits.{payload_limit}
 use Rattle.foz_crc.specs.Crc32.{crc32_of}
-use Rattle.record_words.specs.Entries.{is_key, is_undamaged}
+use Rattle.foz_entry.specs.Entries.{is_undamaged}
 use Rattle.state_words.specs.References.{refs_of}
 use Rattle.replay_core.specs.declared.plan.Plan.{Plan}
 use Rattle.replay_core.specs.declared.plan.Dep.{Dep}
 use Rattle.replay_core.specs.Histories.{IsInRange, IsPlan}
 use Rattle.foz_payload.proofs.Small.{means_few}
-use Rattle.dep_graph.specs.declared.class.Class.{Class}
 use Rattle.dep_graph.specs.declared.survey.Survey.{Survey}
 use Rattle.dep_graph.specs.Classes.{is_item}
 use Rattle.dep_graph.specs.Items.{item_entries, item_keys, dep_from, dep_on, DependsAs, HasItsSize}

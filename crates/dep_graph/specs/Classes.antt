@@ -1,8 +1,10 @@
 -- The class of each entry, the first that fits.
-use Rattle.std.specs.Prelude.{◌≡◌, ℕ, ◌<◌, ◌&&◌, nat_le, Bool, true, false, List, length, take, count_by, slice_index_or, Option, Some, None, Ok, Err}
+use Rattle.std.specs.Prelude.{◌≡◌, ℕ, ◌<◌, ◌&&◌, nat_le, Bool, true, false, List, length, take, count_by, slice_index_or, Some, Ok, Err}
 use Rattle.foz_entry.specs.declared.cut.Entry.{Entry}
 use Rattle.foz_entry.specs.Damage.{damage}
-use Rattle.record_words.specs.Entries.{is_undamaged, holder}
+use Rattle.foz_entry.specs.Entries.{is_undamaged}
+use Rattle.record_words.specs.Entries.{holder}
+use Rattle.record_words.specs.Index.{IsFirstOfKey}
 use Rattle.state_words.specs.declared.state.State.{State}
 use Rattle.foz_payload.specs.Meaning.{Means}
 use Rattle.dep_graph.specs.declared.class.Class.{Class}
@@ -11,11 +13,6 @@ use Rattle.dep_graph.specs.declared.class.Class.TheVariants.{Damaged, Duplicate,
 -- the tag of a kind of states
 abbrev pub is_kind : ℕ → Bool
 is_kind tag = nat_le 1 tag && nat_le tag 7
-
--- The entry is undamaged, and no undamaged entry before it has its key.
-pub record IsFirstOfKey (before : List Entry) (entry : Entry) : Type 0 where
-  pub sound : is_undamaged entry ≡ true
-  pub first : holder entry.head.key before ≡ None
 
 -- The entry is the first of its key, and that is the key of a state.
 pub record IsCandidate (before : List Entry) (entry : Entry) : Type 0 where

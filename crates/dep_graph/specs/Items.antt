@@ -1,9 +1,9 @@
 -- The items of an archive, and what each of them stands on.
-use Rattle.std.specs.Prelude.{◌≡◌, ℕ, List, length, map, position, Option, Some, None}
+use Rattle.std.specs.Prelude.{◌≡◌, ℕ, List, length, map, position, slice_get, Option, Some, None}
 use Rattle.std.specs.List.{items_where_true, range_with_len}
+use Rattle.foz_words.specs.Key.{is_key}
 use Rattle.foz_words.specs.declared.key.Key.{Key}
 use Rattle.foz_entry.specs.declared.cut.Entry.{Entry}
-use Rattle.record_words.specs.Entries.{is_key}
 use Rattle.state_words.specs.declared.state.State.{State}
 use Rattle.state_words.specs.References.{refs_of}
 use Rattle.replay_core.specs.declared.plan.Dep.{Dep}
@@ -30,6 +30,10 @@ dep_from None key = dep.Absent key
 -- the item that has this key, where the items have these keys
 abbrev pub dep_on : List Key → Key → Dep
 dep_on keys key = dep_from (position (is_key key) keys) key
+
+-- no key stands twice: each is first found at its own place
+abbrev pub AreDistinct : List Key → Type 0
+AreDistinct keys = (i : ℕ) (key : Key) → slice_get keys i ≡ Some key → position (is_key key) keys ≡ Some i
 
 -- The entry's payload means a state, and these are what the state refers to, in the order of its fields.
 pub record DependsAs (keys : List Key) (entry : Entry) (deps : List Dep) : Type 0 where

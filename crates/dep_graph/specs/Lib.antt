@@ -1,3 +1,4 @@
 pub mod Classes
 pub mod Items
+pub mod Graphs
 pub mod Surveys

@@ -1,10 +1,13 @@
 -- What is known after the first pass over some entries.
 use Rattle.std.specs.Prelude.{◌≡◌, ℕ, Bool, true, false, List, map, position, slice_get, Option, Some, None, option_and_then}
 use Rattle.std.specs.List.{AllZip}
-use Rattle.indexmap.specs.IndexMap.{IndexMap, get}
+use Rattle.indexmap.specs.IndexMap.{get}
+use Rattle.foz_words.specs.Key.{is_key}
 use Rattle.foz_words.specs.declared.key.Key.{Key}
 use Rattle.foz_entry.specs.declared.cut.Entry.{Entry}
-use Rattle.record_words.specs.Entries.{is_key, is_undamaged, holder}
+use Rattle.foz_entry.specs.Entries.{is_undamaged}
+use Rattle.record_words.specs.Entries.{holder}
+use Rattle.record_words.specs.Index.{IsIndexOf}
 use Rattle.state_words.specs.declared.state.State.{State}
 use Rattle.state_words.specs.References.{refs_of}
 use Rattle.replay_core.specs.declared.plan.Dep.{Dep}
@@ -14,11 +17,7 @@ use Rattle.dep_graph.specs.declared.survey.Sorted.{Sorted}
 use Rattle.dep_graph.specs.declared.survey.Sorted.TheVariants.{Item, Other}
 use Rattle.dep_graph.specs.declared.survey.Survey.{Survey}
 use Rattle.dep_graph.specs.Classes.{is_item, HasClass, IsCandidate, HoldsState, AreClassesOf}
-use Rattle.dep_graph.specs.Items.{item_places, item_entries, item_keys, dep_from}
-
--- the index gives each key its holder
-abbrev pub IsIndexOf : {S : Type 0} → (Key → Key → Bool) → IndexMap Key ℕ S → List Entry → Type 0
-IsIndexOf eq index entries = (key : Key) → get eq index key ≡ holder key entries
+use Rattle.dep_graph.specs.Items.{item_places, item_entries, item_keys, dep_from, AreDistinct}
 
 -- The entry is undamaged, and its payload means a state that refers to these keys.
 pub record RefersTo (entry : Entry) (refs : List Key) : Type 0 where
@@ -51,8 +50,9 @@ abbrev pub deps_held : List Entry → List Class → List Key → List Dep
 deps_held entries classes keys = map (dep_held entries classes) keys
 
 pub record IsSurvey (eq : Key → Key → Bool) (survey : Survey) (entries : List Entry) : Type 0 where
-  pub index : IsIndexOf eq survey.index entries
+  pub index : IsIndexOf (get eq survey.index) entries
   pub classes : AreClassesOf entries survey.classes
   pub items : survey.items ≡ item_places survey.classes
   pub refs : AllZip RefersTo (item_entries entries survey.classes) survey.refs
   pub numbers : (key : Key) → position (is_key key) (item_keys entries survey.classes) ≡ number_held entries survey.classes key
+  pub distinct : AreDistinct (item_keys entries survey.classes)

@@ -1,11 +1,12 @@
 ghost use Rattle.std.specs.Prelude.{◌≡◌, ◌≤◌, List, length, map, All, IfOk};
-ghost use Rattle.std.specs.List.{AllZip};
 ghost use Rattle.foz_entry.specs.declared.cut.Entry.{Entry};
-ghost use Rattle.record_words.specs.Entries.{most_entries};
+ghost use Rattle.indexmap.specs.IndexMap.{get};
+ghost use Rattle.foz_entry.specs.Limits.{count_limit};
+ghost use Rattle.record_words.specs.Index.{IsIndexOf};
 ghost use Rattle.replay_core.specs.Histories.{IsPlan};
-ghost use Rattle.dep_graph.specs.Classes.{AreClassesOf};
-ghost use Rattle.dep_graph.specs.Items.{item_places, item_entries, item_keys, DependsAs, HasItsSize};
-ghost use Rattle.dep_graph.specs.Surveys.{IsIndexOf, deps_held};
+ghost use Rattle.dep_graph.specs.Items.{HasItsSize};
+ghost use Rattle.dep_graph.specs.Graphs.{IsGraphOf};
+ghost use Rattle.dep_graph.specs.Surveys.{deps_held};
 
 use crate::class::Class;
 use crate::survey::{Survey, survey_of};
@@ -27,10 +28,8 @@ pub struct Graph {
 
 /// The graph of an archive's entries, of which there are at most 1,048,576.
 pub fn plan_of(alloc: Global, entries: &[Entry]) -> Result<Graph, NoMemory>
-    requires few { length entries.now ≤ most_entries }
-    ensures classes { IfOk result (λ graph. AreClassesOf entries.now graph.classes) }
-    ensures items { IfOk result (λ graph. graph.items ≡ item_places graph.classes) }
-    ensures deps { IfOk result (λ graph. AllZip (DependsAs (item_keys entries.now graph.classes)) (item_entries entries.now graph.classes) graph.plan.deps) }
+    requires few { length entries.now ≤ count_limit }
+    ensures graph { IfOk result (IsGraphOf entries.now) }
 
     // A scheduler takes the plan.
     ensures plan { IfOk result (λ graph. All HasItsSize entries.now → IsPlan graph.plan) }
@@ -46,7 +45,7 @@ pub fn plan_of(alloc: Global, entries: &[Entry]) -> Result<Graph, NoMemory>
 
 /// What each item stands on.
 fn all_deps(alloc: Global, survey: &Survey) -> Result<Row<Row<Dep>>, NoMemory>
-    ensures { (entries : List Entry) → IsIndexOf ⟦<Key as PartialEq>⟧.eq survey.now.index entries → IfOk result (λ deps. deps ≡ map (deps_held entries survey.now.classes) survey.now.refs) }
+    ensures { (entries : List Entry) → IsIndexOf (get ⟦<Key as PartialEq>⟧.eq survey.now.index) entries → IfOk result (λ deps. deps ≡ map (deps_held entries survey.now.classes) survey.now.refs) }
 {
     let rows = survey.refs.as_slice();
     let mut deps = Vec::with_capacity(alloc, rows.len())?;

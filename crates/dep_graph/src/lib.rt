@@ -3,10 +3,12 @@
 
 mod class;
 mod graph;
+mod item;
 mod survey;
 
 pub use class::Class;
 pub use graph::{Graph, plan_of};
+pub use item::{find_entry, item_entry};
 
 #[cfg(test)]
 mod tests;

@@ -1,15 +1,17 @@
 //! The first pass over the entries: their classes, the items, and what each item refers to.
 ghost use Rattle.std.specs.Prelude.{◌≡◌, ◌<◌, ◌≤◌, ◌^◌, [], ◌∷◌, ◌++◌, List, length, map, IfOk, OnOk};
+ghost use Rattle.foz_entry.specs.Damage.{damage};
 ghost use Rattle.foz_entry.specs.declared.cut.Entry.{Entry};
-ghost use Rattle.record_words.specs.Entries.{holder};
-ghost use Rattle.dep_graph.specs.Classes.{IsFirstOfKey};
-ghost use Rattle.dep_graph.specs.Surveys.{IsIndexOf, IsSorted, IsSurvey, dep_held, number_in};
+ghost use Rattle.indexmap.specs.IndexMap.{get};
+ghost use Rattle.record_words.specs.Index.{IsFirstOfKey, IsIndexOf};
+ghost use Rattle.dep_graph.specs.Surveys.{IsSorted, IsSurvey, dep_held, number_in};
 
 use crate::class::Class;
-use foz_entry::{Entry, check};
+use foz_entry::{Entry, EntryCause, check};
 use foz_payload::{Unreadable, state_of};
 use foz_words::{Key, NoMemory, Row};
 use indexmap::IndexMap;
+use record_words::indexes_grow;
 use replay_core::Dep;
 use state_words::refs_of;
 use std::alloc::Global;
@@ -48,22 +50,35 @@ pub(crate) fn survey_of(alloc: Global, entries: &[Entry]) -> Result<Survey, NoMe
         refs: Row::new(alloc),
     };
     for entry in entries {
-        survey.add(alloc, entry)?;
+        survey.add(alloc, entry, damage_of(entry))?;
     }
     Ok(survey)
 }
 
-/// What the entry at the next place is, which joins the index where it is the first of its key.
+/// The first damage of an entry.
+fn damage_of(entry: &Entry) -> Option<EntryCause>
+    ensures { result ≡ damage entry.now.head entry.now.payload }
+{
+    match check(&entry.head, entry.payload.as_slice()) {
+        Ok(()) => None,
+        Err(cause) => Some(cause),
+    }
+}
+
+/// What the entry at the next place is, whose reader found this damage. It joins the index where it is the first of its key.
 fn sort(
     alloc: Global,
     index: &mut IndexMap<Key, u32>,
     place: u32,
     entry: &Entry,
+    found: Option<EntryCause>,
 ) -> Result<Sorted, NoMemory>
-    ensures indexed { OnOk result ((before : List Entry) → length before ≡ place → IsIndexOf ⟦<Key as PartialEq>⟧.eq index.old before → IsIndexOf ⟦<Key as PartialEq>⟧.eq index.new (before ++ entry.now ∷ [])) }
-    ensures sorted { IfOk result (λ sorted. (before : List Entry) → IsIndexOf ⟦<Key as PartialEq>⟧.eq index.old before → IsSorted before entry.now sorted) }
+    requires found { found ≡ damage entry.now.head entry.now.payload }
+    ensures indexed { OnOk result ((before : List Entry) → length before ≡ place → IsIndexOf (get ⟦<Key as PartialEq>⟧.eq index.old) before → IsIndexOf (get ⟦<Key as PartialEq>⟧.eq index.new) (before ++ entry.now ∷ [])) }
+    ensures sorted { IfOk result (λ sorted. (before : List Entry) → IsIndexOf (get ⟦<Key as PartialEq>⟧.eq index.old) before → IsSorted before entry.now sorted) }
 {
-    if let Err(cause) = check(&entry.head, entry.payload.as_slice()) {
+    indexes_grow();
+    if let Some(cause) = found {
         return Ok(Sorted::Other(Class::Damaged(cause)));
     }
     let key = entry.head.key;
@@ -100,14 +115,20 @@ fn number_at(classes: &[Class], place: u32) -> Option<u32>
 }
 
 impl Survey {
-    /// Adds the next entry.
-    fn add(&mut self, alloc: Global, entry: &Entry) -> Result<(), NoMemory>
+    /// Adds the next entry, whose reader found this damage: a checksum is computed once, by whoever reads the entry.
+    fn add(
+        &mut self,
+        alloc: Global,
+        entry: &Entry,
+        found: Option<EntryCause>,
+    ) -> Result<(), NoMemory>
+        requires found { found ≡ damage entry.now.head entry.now.payload }
         requires few { length self.old.classes < 2 ^ 32 }
         requires fewer { length self.old.items ≤ length self.old.classes }
         ensures { OnOk result ((before : List Entry) → IsSurvey ⟦<Key as PartialEq>⟧.eq self.old before → IsSurvey ⟦<Key as PartialEq>⟧.eq self.new (before ++ entry.now ∷ [])) }
     {
         let place = self.classes.len() as u32;
-        match sort(alloc, &mut self.index, place, entry)? {
+        match sort(alloc, &mut self.index, place, entry, found)? {
             Sorted::Other(class) => self.classes.push(class),
             Sorted::Item(refs) => {
                 let number = self.items.len() as u32;
@@ -120,7 +141,7 @@ impl Survey {
 
     /// What an item with this key in its payload stands on.
     fn dep_on(&self, key: Key) -> Dep
-        ensures { (entries : List Entry) → IsIndexOf ⟦<Key as PartialEq>⟧.eq self.now.index entries → result ≡ dep_held entries self.now.classes key }
+        ensures { (entries : List Entry) → IsIndexOf (get ⟦<Key as PartialEq>⟧.eq self.now.index) entries → result ≡ dep_held entries self.now.classes key }
     {
         let Some(place) = self.index.get(&key).copied() else {
             return Dep::Absent(key);
@@ -133,7 +154,7 @@ impl Survey {
 
     /// What an item with these keys in its payload stands on, in their order.
     pub fn deps_on(&self, alloc: Global, keys: &[Key]) -> Result<Row<Dep>, NoMemory>
-        ensures { (entries : List Entry) → IsIndexOf ⟦<Key as PartialEq>⟧.eq self.now.index entries → IfOk result (λ deps. deps ≡ map (dep_held entries self.now.classes) keys.now) }
+        ensures { (entries : List Entry) → IsIndexOf (get ⟦<Key as PartialEq>⟧.eq self.now.index) entries → IfOk result (λ deps. deps ≡ map (dep_held entries self.now.classes) keys.now) }
     {
         let mut deps = Vec::with_capacity(alloc, keys.len())?;
         for key in keys {

@@ -182,10 +182,10 @@ impl CheckDriver {
 }
 
 impl Driver for CheckDriver {
-    ghost use Rattle.driver_check.specs.Kept.{Kept, kept_in};
+    ghost use Rattle.driver_check.specs.Kept.{KeptStates, kept_in};
     ghost use Rattle.driver_check.specs.Codes.{Creates};
 
-    ghost Meaning = { Kept };
+    ghost Meaning = { KeptStates };
 
     ghost meaning = { λ driver. kept_in driver };
 

@@ -5,8 +5,10 @@
 mod check_driver;
 mod created;
 mod driver;
+mod laws;
 #[cfg(test)]
 mod tests;
 
 pub use check_driver::CheckDriver;
 pub use driver::Driver;
+pub use laws::code_by_references;

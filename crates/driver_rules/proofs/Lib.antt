@@ -1,4 +1,3 @@
-pub mod Answered
 pub mod Apart
 pub mod Broken
 pub mod Described

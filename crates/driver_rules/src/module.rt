@@ -1,7 +1,6 @@
-ghost use Rattle.std.specs.Prelude.{◌≡◌, ◌≢◌, Err, IfOk, MatchResult};
-ghost use Rattle.spirv_check.specs.Answers.{Answers};
+ghost use Rattle.std.specs.Prelude.{◌≡◌, ◌≢◌, IfOk, MatchResult};
 ghost use Rattle.spirv_check.specs.declared.error.SpirvError.TheVariants.{Memory};
-ghost use Rattle.driver_rules.specs.Modules.{answer_of, fault_code, module_code, entries_in};
+ghost use Rattle.driver_rules.specs.Modules.{fault_code, module_code, entries_in};
 
 use foz_words::{NoMemory, Row};
 use spirv_check::{EntryPoint, SpirvError, check};
@@ -20,8 +19,6 @@ pub struct Judged {
 pub fn judge_module(alloc: Global, words: &[u32]) -> Result<Judged, NoMemory>
     ensures code { IfOk result (λ judged. judged.code ≡ module_code words.now) }
     ensures entries { IfOk result (λ judged. judged.entries ≡ entries_in words.now) }
-    // These follow the answer that fits the words.
-    ensures answer { Answers words.now (answer_of words.now) × (answer_of words.now ≢ Err Memory) }
 {
     match check(alloc, words) {
         Ok(shape) => Ok(Judged {

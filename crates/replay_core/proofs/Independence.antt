@@ -19,7 +19,7 @@ pub verdicts_fated : VerdictsAreFates
 unfolding verdict_list
 verdicts_fated s es outcomes r all agrees =
     let found = verdicts_are_fates s es outcomes r all agrees in
-    (found.0, found.1, pointwise (verdict_of es) (λ i. Some (found.0 i)) (items_of s.plan) found.2)
+    (found.0, found.1, pointwise (verdict_of s es) (λ i. Some (found.0 i)) (items_of s.plan) found.2)
 
 pub fates_unique : FatesAreUnique
 fates_unique plan outcomes vs others one two =
@@ -32,6 +32,6 @@ outcomes_decide s t es fs outcomes same r q all every agrees agree =
 
 pub replies_decide : SameRepliesSameVerdicts
 unfolding verdict_list
-replies_decide s t es fs same r q all every replies =
-    pointwise (verdict_of es) (verdict_of fs) (items_of s.plan) (same_replies_same_verdicts s t es fs same r q all every replies)
-    ∙ ap (λ plan. map (verdict_of fs) (range_with_len 0 (items_of plan))) same
+replies_decide s t es fs same one two r q all every replies =
+    pointwise (verdict_of s es) (verdict_of t fs) (items_of s.plan) (same_replies_same_verdicts s t es fs same one two r q all every replies)
+    ∙ ap (λ plan. map (verdict_of t fs) (range_with_len 0 (items_of plan))) same

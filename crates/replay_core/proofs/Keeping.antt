@@ -13,13 +13,13 @@ use Rattle.replay_core.specs.declared.event.Verdict.TheVariants.{Done, Blamed, M
 use Rattle.replay_core.specs.declared.event.SlotState.{SlotState}
 use Rattle.replay_core.specs.declared.event.SlotState.TheVariants.{Idle, Holds, Dead, Retired}
 use Rattle.replay_core.specs.Plans.{items_of}
-use Rattle.replay_core.specs.Runs.{Setup, names, state_after, slot_at, is_holding, verdict_by, verdict_of, Allowed, GoesOn}
+use Rattle.replay_core.specs.Runs.{Setup, names, state_after, slot_at, is_holding, verdict_by, verdict_of, Allowed, GoesOn, IsRun, setup_of}
 use Rattle.replay_core.specs.Histories.{room_of, IsPlan}
-use Rattle.replay_core.specs.Boards.{slot_of, blame, judged, set_at, states_with, decide, allowance, Keeps, MarksFounded, FitsTogether}
+use Rattle.replay_core.specs.Notes.{slot_of, blame, judged, set_at, states_with, decide, allowance, Keeps, MarksFounded, FitsTogether}
 use Rattle.replay_core.proofs.Steps.{slot_at-nil, verdict_of-nil, slot_at-push, verdict_of-push, earlier, run_push}
 use Rattle.replay_core.specs.declared.counts.Counts.{Counts}
 use Rattle.replay_core.specs.Counting.{IsTally, AreSmall, with_event, with_decided}
-use Rattle.replay_core.proofs.Sound.{Sound, run_is_sound}
+use Rattle.replay_core.proofs.Sound.{Sound, run_is_sound, death_judges}
 use Rattle.replay_core.proofs.Tallying.{tally_event, tally_decided, tally_small}
 
 pub names-slot_of : (w : ℕ) (e : Event) → names w e ≡ elim (slot_of e) as (λ _. Bool) [ None ↦ false | Some v ↦ eqb v w ]
@@ -59,27 +59,27 @@ blamed_at (Holds j) i = refl
 blamed_at Dead i = refl
 blamed_at Retired i = refl
 
-verdict_by-judged : (s : Setup) (es : List Event) (states : List SlotState) (e : Event) (i : ℕ) → ((w : ℕ) → w < s.slots → get_or states w Idle ≡ slot_at es w) → Allowed s es e →
-    verdict_by es e i ≡ judged_at (judged states e) i
-verdict_by-judged s es states (Start w j) i h a = refl
-verdict_by-judged s es states (Reply w j c) i h a = refl
-verdict_by-judged s es states (Death w) i h a = ap (λ t. cond (is_holding t i) (Some Blamed) None) (sym (h w a.0)) ∙ blamed_at (get_or states w Idle) i
-verdict_by-judged s es states (Restart w) i h a = refl
-verdict_by-judged s es states (Retire w) i h a = refl
-verdict_by-judged s es states (Miss j p) i h a = refl
+verdict_by-judged : (s : Setup) (es : List Event) (states : List SlotState) (e : Event) (i : ℕ) → IsRun s es → s.deaths ≡ 1 → ((w : ℕ) → w < s.slots → get_or states w Idle ≡ slot_at es w) → Allowed s es e →
+    verdict_by s es e i ≡ judged_at (judged states e) i
+verdict_by-judged s es states (Start w j) i r one h a = refl
+verdict_by-judged s es states (Reply w j c) i r one h a = refl
+verdict_by-judged s es states (Death w) i r one h a = death_judges s es w i r one ∙ (ap (λ t. cond (is_holding t i) (Some Blamed) None) (sym (h w a.0)) ∙ blamed_at (get_or states w Idle) i)
+verdict_by-judged s es states (Restart w) i r one h a = refl
+verdict_by-judged s es states (Retire w) i r one h a = refl
+verdict_by-judged s es states (Miss j p) i r one h a = refl
 
 -- the item that an allowed event decides is one of the plan's, and was undecided
 judged_waiting : (s : Setup) (es : List Event) (states : List SlotState) (e : Event) (v : ℕ × Verdict) → Sound s es → ((w : ℕ) → w < s.slots → get_or states w Idle ≡ slot_at es w) → Allowed s es e →
-    judged states e ≡ Some v → (v.0 < items_of s.plan) × (verdict_of es v.0 ≡ None)
+    judged states e ≡ Some v → (v.0 < items_of s.plan) × (verdict_of s es v.0 ≡ None)
 judged_waiting s es states (Start w j) v k h a g = cc
-judged_waiting s es states (Reply w j c) v k h a g = let same : j ≡ v.0 = cc in subst (λ x. (x < items_of s.plan) × (verdict_of es x ≡ None)) same (k.held_in_plan w j a.1, k.held_undecided w j a.1)
+judged_waiting s es states (Reply w j c) v k h a g = let same : j ≡ v.0 = cc in subst (λ x. (x < items_of s.plan) × (verdict_of s es x ≡ None)) same (k.held_in_plan w j a.1, k.held_undecided w j a.1)
 judged_waiting s es states (Death w) v k h a g =
     let held : blame (get_or states w Idle) ≡ Some (a.1.0, Blamed) = ap blame (h w a.0 ∙ a.1.1) in
     let same : a.1.0 ≡ v.0 = cc in
-    subst (λ x. (x < items_of s.plan) × (verdict_of es x ≡ None)) same (k.held_in_plan w a.1.0 a.1.1, k.held_undecided w a.1.0 a.1.1)
+    subst (λ x. (x < items_of s.plan) × (verdict_of s es x ≡ None)) same (k.held_in_plan w a.1.0 a.1.1, k.held_undecided w a.1.0 a.1.1)
 judged_waiting s es states (Restart w) v k h a g = cc
 judged_waiting s es states (Retire w) v k h a g = cc
-judged_waiting s es states (Miss j p) v k h a g = let same : j ≡ v.0 = cc in subst (λ x. (x < items_of s.plan) × (verdict_of es x ≡ None)) same (a.waiting.in_plan, a.waiting.undecided)
+judged_waiting s es states (Miss j p) v k h a g = let same : j ≡ v.0 = cc in subst (λ x. (x < items_of s.plan) × (verdict_of s es x ≡ None)) same (a.waiting.in_plan, a.waiting.undecided)
 
 get_decide : (xs : List (Option Verdict)) (o : Option (ℕ × Verdict)) (i : ℕ) → i < length xs →
     get_or (decide xs o) i None ≡ elim o as (λ _. Option Verdict) [ None ↦ get_or xs i None | Some v ↦ cond (eqb v.0 i) (Some v.1) (get_or xs i None) ]
@@ -101,14 +101,14 @@ decided_is (Some v) i before h =
 
 -- the verdicts after the event
 pub verdicts_push : (s : Setup) (es : List Event) (states : List SlotState) (verdicts : List (Option Verdict)) (e : Event) → Keeps s es states verdicts → Allowed s es e →
-    (i : ℕ) → i < items_of s.plan → get_or (decide verdicts (judged states e)) i None ≡ verdict_of (es ++ e ∷ []) i
+    (i : ℕ) → i < items_of s.plan → get_or (decide verdicts (judged states e)) i None ≡ verdict_of s (es ++ e ∷ []) i
 verdicts_push s es states verdicts e k a i l =
     let within : i < length verdicts = omega (arith, k.items) in
     get_decide verdicts (judged states e) i within
     ∙ (ap (λ b. elim (judged states e) as (λ _. Option Verdict) [ None ↦ b | Some v ↦ cond (eqb v.0 i) (Some v.1) b ]) (k.each_verdict i l)
-    ∙ (decided_is (judged states e) i (verdict_of es i) (λ v g same. subst (λ x. verdict_of es x ≡ None) same (judged_waiting s es states e v (run_is_sound s es k.run) k.each_state a g).1)
-    ∙ (ap (λ o. earlier (verdict_of es i) o) (sym (verdict_by-judged s es states e i k.each_state a))
-    ∙ sym (verdict_of-push es e i))))
+    ∙ (decided_is (judged states e) i (verdict_of s es i) (λ v g same. subst (λ x. verdict_of s es x ≡ None) same (judged_waiting s es states e v (run_is_sound s es k.run) k.each_state a g).1)
+    ∙ (ap (λ o. earlier (verdict_of s es i) o) (sym (verdict_by-judged s es states e i k.run k.deaths k.each_state a))
+    ∙ sym (verdict_of-push s es e i))))
 
 -- the states after the event
 pub states_push : (s : Setup) (es : List Event) (states : List SlotState) (verdicts : List (Option Verdict)) (e : Event) → Keeps s es states verdicts → Allowed s es e →
@@ -136,7 +136,7 @@ set_verdict verdicts i v l h =
     omega arith
 
 -- the verdict of an undecided item as it is kept
-kept_none : (s : Setup) (es : List Event) (states : List SlotState) (verdicts : List (Option Verdict)) (i : ℕ) → Keeps s es states verdicts → i < items_of s.plan → verdict_of es i ≡ None → (i < length verdicts) × (get_or verdicts i None ≡ None)
+kept_none : (s : Setup) (es : List Event) (states : List SlotState) (verdicts : List (Option Verdict)) (i : ℕ) → Keeps s es states verdicts → i < items_of s.plan → verdict_of s es i ≡ None → (i < length verdicts) × (get_or verdicts i None ≡ None)
 kept_none s es states verdicts i k l h = (omega (arith, k.items), k.each_verdict i l ∙ h)
 
 budget_push : (s : Setup) (es : List Event) (states : List SlotState) (verdicts : List (Option Verdict)) (e : Event) → Keeps s es states verdicts → Allowed s es e →
@@ -188,6 +188,7 @@ length-set_at xs (Some k) x = length-set xs k x
 pub keeps_push : (s : Setup) (es : List Event) (states : List SlotState) (verdicts : List (Option Verdict)) (e : Event) → Keeps s es states verdicts → Allowed s es e →
     Keeps s (es ++ e ∷ []) (states_with states e) (decide verdicts (judged states e))
 keeps_push s es states verdicts e k a = record {
+  deaths = k.deaths;
   run = run_push s es e k.run a;
   slots = length-set_at states (slot_of e) (state_after e) ∙ k.slots;
   items = length-decide verdicts (judged states e) ∙ k.items;
@@ -207,12 +208,12 @@ written xs new n e l =
     ∙ (ap (take n) (append-nil new) ∙ take_all n new (omega arith))
 
 pub fits_push : (plan : Plan) (marks : List Bool) (states new_states : List SlotState) (verdicts new_verdicts : List (Option Verdict)) (es new_es : List Event) (capacity new_capacity : ℕ) (e : Event) →
-    FitsTogether plan marks states verdicts es capacity → Allowed (record { plan = plan; slots = length states }) es e →
+    FitsTogether plan marks states verdicts es capacity → Allowed (setup_of plan (length states)) es e →
     new_states ≡ states_with states e → new_verdicts ≡ decide verdicts (judged states e) → new_es ≡ es ++ e ∷ [] → capacity ≤ new_capacity →
     FitsTogether plan marks new_states new_verdicts new_es new_capacity
 fits_push plan marks states new_states verdicts new_verdicts es new_es capacity new_capacity e f a hs hv he hc =
     let same : length new_states ≡ length states = ap length hs ∙ length-set_at states (slot_of e) (state_after e) in
-    let setup : ℕ → Setup = λ n. record { plan = plan; slots = n } in
+    let setup : ℕ → Setup = λ n. setup_of plan n in
     record {
       plan_is = f.plan_is;
       some_slot = omega (arith, f.some_slot);
@@ -242,14 +243,15 @@ pub state_read : (s : Setup) (es : List Event) (states : List SlotState) (verdic
 state_read s es states verdicts w read k l h = let within : w < length states = omega (arith, k.slots) in sym (k.each_state w l) ∙ (get_or_default states w Idle read within ∙ sym h)
 
 -- at first
-pub keeps_at_first : (plan : Plan) (slots : ℕ) → Keeps (record { plan = plan; slots = slots }) [] (replicate slots Idle) (replicate (items_of plan) None)
+pub keeps_at_first : (plan : Plan) (slots : ℕ) → Keeps (setup_of plan slots) [] (replicate slots Idle) (replicate (items_of plan) None)
 unfolding GoesOn
 keeps_at_first plan slots = record {
+  deaths = refl;
   run = tt;
   slots = length-replicate slots Idle;
   items = length-replicate (items_of plan) None;
   each_state = λ w l. get_or-replicate slots w Idle Idle l ∙ sym (slot_at-nil w);
-  each_verdict = λ i l. get_or-replicate (items_of plan) i None None l ∙ sym (verdict_of-nil i);
+  each_verdict = λ i l. get_or-replicate (items_of plan) i None None l ∙ sym (verdict_of-nil (setup_of plan slots) i);
   budget =
       let few = sum_by-le allowance 1 (replicate slots Idle) (All-replicate (λ state. allowance state ≤ 1) slots Idle (omega arith)) in
       let some = count_by-le-length {X = Option Verdict} is_none (replicate (items_of plan) None) in
@@ -263,7 +265,7 @@ pub fits_at_first : (plan : Plan) (marks : List Bool) (states : List SlotState) 
     FitsTogether plan marks states verdicts es capacity
 fits_at_first plan marks states verdicts es capacity slots items p some few m hi hs hv he hc =
     let same : length states ≡ slots = ap length hs ∙ length-replicate slots Idle in
-    let setup : ℕ → Setup = λ n. record { plan = plan; slots = n } in
+    let setup : ℕ → Setup = λ n. setup_of plan n in
     record {
       plan_is = p;
       some_slot = omega arith;
@@ -290,9 +292,9 @@ tally_push s es new_es states verdicts new_verdicts e counts new_counts k a t hv
 
 -- no count is at its type's end
 pub counts_small : (plan : Plan) (marks : List Bool) (states : List SlotState) (verdicts : List (Option Verdict)) (es : List Event) (capacity : ℕ) (e : Event) (counts : Counts) →
-    FitsTogether plan marks states verdicts es capacity → IsTally es verdicts counts → Allowed (record { plan = plan; slots = length states }) es e → AreSmall counts × AreSmall (with_event counts e)
+    FitsTogether plan marks states verdicts es capacity → IsTally es verdicts counts → Allowed (setup_of plan (length states)) es e → AreSmall counts × AreSmall (with_event counts e)
 counts_small plan marks states verdicts es capacity e counts f t a =
-    let fits = event_fits (record { plan = plan; slots = length states }) es states verdicts e f.keeps a in
+    let fits = event_fits (setup_of plan (length states)) es states verdicts e f.keeps a in
     let few : length es < 2 ^ 31 = omega (arith, fits, f.plan_is.items, f.few_slots) in
     let short : length verdicts < 2 ^ 32 = omega (arith, f.keeps.items, f.plan_is.items) in (
       tally_small es verdicts counts (omega arith) short t,

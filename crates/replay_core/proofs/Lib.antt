@@ -13,3 +13,7 @@ pub mod Settled
 pub mod Using
 pub mod Tallying
 pub mod Independence
+pub mod Rooms
+pub mod Ranks
+pub mod Naming
+pub mod Existing

@@ -11,7 +11,7 @@ use Rattle.replay_core.specs.declared.plan.Dep.TheVariants.{Item, Absent}
 use Rattle.replay_core.specs.declared.founded.Search.{Search}
 use Rattle.replay_core.specs.Plans.{items_of, deps_of, is_item_of, is_founded_within, Founded, IsFoundedItem}
 use Rattle.replay_core.specs.Histories.{IsInRange, IsPlan}
-use Rattle.replay_core.specs.Boards.{MarksFounded}
+use Rattle.replay_core.specs.Notes.{MarksFounded}
 use Rattle.replay_core.specs.Queues.{AreUsers, IsUpTo}
 use Rattle.replay_core.specs.Searching.{is_marked_in, is_marked_dep, IsMarked, IsClosed, MarkedFounded, StopsAt, SearchFits, IsSearch, GrowsFresh, WasLookedAt}
 use Rattle.replay_core.proofs.Ends.{founded_parts, not_founded_zero}

@@ -6,18 +6,18 @@ use Rattle.std.proofs.lemmas.Bool.{cases_Bool, cases_order, cases_lt, eq-eqb, ne
 use Rattle.replay_core.specs.declared.plan.Dep.{Dep}
 use Rattle.replay_core.specs.declared.plan.Dep.TheVariants.{Item}
 use Rattle.replay_core.specs.declared.event.Event.{Event}
-use Rattle.replay_core.specs.declared.event.Event.TheVariants.{Start, Reply, Miss}
+use Rattle.replay_core.specs.declared.event.Event.TheVariants.{Start, Reply, Miss, Death}
 use Rattle.replay_core.specs.declared.event.Verdict.{Verdict}
-use Rattle.replay_core.specs.declared.event.Verdict.TheVariants.{Done}
+use Rattle.replay_core.specs.declared.event.Verdict.TheVariants.{Done, Blamed}
 use Rattle.replay_core.specs.declared.event.SlotState.TheVariants.{Idle, Holds, Dead}
 use Rattle.replay_core.specs.declared.queues.Queues.{Queues}
 use Rattle.replay_core.specs.Plans.{items_of, deps_of}
-use Rattle.replay_core.specs.Runs.{Setup, slot_at, verdict_by, verdict_of, IsMet, IsLost, IsWaiting, Allowed, NoStart, NoMiss, SomeHeld, AllDecided, IsRun}
+use Rattle.replay_core.specs.Runs.{Setup, slot_at, is_holding, verdict_by, verdict_of, IsMet, IsLost, IsWaiting, Allowed, NoStart, NoMiss, SomeHeld, AllDecided, IsRun}
 use Rattle.replay_core.specs.Histories.{History, with_events}
 use Rattle.replay_core.specs.Turns.{AddsMisses, SomeUndecided}
 use Rattle.replay_core.specs.Queues.{HangsAt, QueuesKept, DecidesOnly}
 use Rattle.replay_core.proofs.Steps.{run_push, slot_at-push}
-use Rattle.replay_core.proofs.Sound.{run_is_sound}
+use Rattle.replay_core.proofs.Sound.{run_is_sound, death_blames, death_judges}
 use Rattle.replay_core.proofs.Ends.{stuck_is_done}
 use Rattle.replay_core.proofs.Grounds.{met_not_lost}
 use Rattle.replay_core.proofs.Prospects.{All-at, All-at_front}
@@ -27,20 +27,20 @@ use Rattle.replay_core.proofs.Queueing.{contains_later, quiet_push}
 none_contained : {X : Type 0} (xs : List X) (n : ℕ) (x : X) → n ≡ length xs → Contains (drop n xs) x → ⊥
 none_contained xs n x e c = let c' = subst (λ ys. Contains ys x) (drop_all n xs (omega arith)) c in absurd (omega (arith, c'.1))
 
-lost_some : (s : Setup) (es : List Event) (o : Option Dep) → IsSomeAnd o (IsLost s.plan es) → (d : Dep) × (o ≡ Some d) × IsLost s.plan es d
+lost_some : (s : Setup) (es : List Event) (o : Option Dep) → IsSomeAnd o (IsLost s es) → (d : Dep) × (o ≡ Some d) × IsLost s es d
 lost_some s es None h = absurd h
 lost_some s es (Some d) h = (d, refl, h)
 
 -- an item that hangs is not missing
-hanging_no_miss : (s : Setup) (es : List Event) (i place p : ℕ) → IsRun s es → All (IsMet es) (take place (deps_of s.plan i)) → HangsAt s es place i → Allowed s es (Miss i p) → ⊥
+hanging_no_miss : (s : Setup) (es : List Event) (i place p : ℕ) → IsRun s es → All (IsMet s es) (take place (deps_of s.plan i)) → HangsAt s es place i → Allowed s es (Miss i p) → ⊥
 hanging_no_miss s es i place p r met hangs miss =
     let lost = lost_some s es (slice_get (deps_of s.plan i) p) miss.lost in
     elim (cases_order p place) [
       | inl same ↦ (let it : lost.0 ≡ Item hangs.0 = (let e : Some lost.0 ≡ Some (Item hangs.0) = sym lost.1 ∙ (ap (slice_get (deps_of s.plan i)) same ∙ hangs.1) in cc) in
-          elim (subst (IsLost s.plan es) it lost.2) [ inl f ↦ f hangs.2 | inr y ↦ (let z : IsSomeAnd {T = Verdict} None (λ v. v ≢ Done 0) = subst (λ o. IsSomeAnd o (λ v. v ≢ Done 0)) hangs.3 y in z) ])
+          elim (subst (IsLost s es) it lost.2) [ inl f ↦ f hangs.2 | inr y ↦ (let z : IsSomeAnd {T = Verdict} None (λ v. v ≢ Done 0) = subst (λ o. IsSomeAnd o (λ v. v ≢ Done 0)) hangs.3 y in z) ])
       | inr apart ↦ elim apart [
-        | inl before ↦ met_not_lost s es r lost.0 (All-at_front (IsMet es) (deps_of s.plan i) place p lost.0 before lost.1 met) lost.2
-        | inr after ↦ (let done : verdict_of es hangs.0 ≡ Some (Done 0) = All-at_front (IsMet es) (deps_of s.plan i) p place (Item hangs.0) after hangs.1 miss.met in let wrong : None ≡ Some (Done 0) = sym hangs.3 ∙ done in cc)
+        | inl before ↦ met_not_lost s es r lost.0 (All-at_front (IsMet s es) (deps_of s.plan i) place p lost.0 before lost.1 met) lost.2
+        | inr after ↦ (let done : verdict_of s es hangs.0 ≡ Some (Done 0) = All-at_front (IsMet s es) (deps_of s.plan i) p place (Item hangs.0) after hangs.1 miss.met in let wrong : None ≡ Some (Done 0) = sym hangs.3 ∙ done in cc)
       ]
     ]
 
@@ -49,7 +49,7 @@ settled_no_miss h q k done i p miss =
     let w = miss.waiting in
     elim (cases_Bool (get_or q.queued.items i false)) [
       | inl on ↦ (let lost = lost_some h.setup h.events (slice_get (deps_of h.setup.plan i) p) miss.lost in
-          met_not_lost h.setup h.events k.run lost.0 (All-at (IsMet h.events) (deps_of h.setup.plan i) p lost.0 lost.1 (k.fit.queued_met i w.in_plan on)) lost.2)
+          met_not_lost h.setup h.events k.run lost.0 (All-at (IsMet h.setup h.events) (deps_of h.setup.plan i) p lost.0 lost.1 (k.fit.queued_met i w.in_plan on)) lost.2)
       | inr off ↦ elim (k.fit.others_hang i w off) [
         | inl there ↦ none_contained q.fresh.items q.head i done there
         | inr hangs ↦ hanging_no_miss h.setup h.events i _ p k.run (k.fit.progress_met i w.in_plan) hangs miss
@@ -62,19 +62,20 @@ settled_no_start h q w k done taken i start =
       | inl on ↦ none_contained q.ready.items q.taken i taken (k.fit.queued_ready i start.waiting on)
       | inr off ↦ elim (k.fit.others_hang i start.waiting off) [
         | inl there ↦ none_contained q.fresh.items q.head i done there
-        | inr hangs ↦ (let met : verdict_of h.events hangs.0 ≡ Some (Done 0) = All-at (IsMet h.events) (deps_of h.setup.plan i) _ (Item hangs.0) hangs.1 start.met in let wrong : None ≡ Some (Done 0) = sym hangs.3 ∙ met in cc)
+        | inr hangs ↦ (let met : verdict_of h.setup h.events hangs.0 ≡ Some (Done 0) = All-at (IsMet h.setup h.events) (deps_of h.setup.plan i) _ (Item hangs.0) hangs.1 start.met in let wrong : None ≡ Some (Done 0) = sym hangs.3 ∙ met in cc)
       ]
     ]
 
 -- an event that decides nothing leaves the queues as they are
-pub kept_quiet : (h new : History) (q : Queues) (e : Event) → QueuesKept h q → Allowed h.setup h.events e → ((j : ℕ) → verdict_by h.events e j ≡ None) → new ≡ with_events h (e ∷ []) → QueuesKept new q
+pub kept_quiet : (h new : History) (q : Queues) (e : Event) → QueuesKept h q → Allowed h.setup h.events e → ((j : ℕ) → verdict_by h.setup h.events e j ≡ None) → new ≡ with_events h (e ∷ []) → QueuesKept new q
 kept_quiet h new q e k a quiet is =
     subst (λ (x : History). QueuesKept x q) (sym is)
-    (record { run = run_push h.setup h.events e k.run a; fit = quiet_push h.setup h.events e _ _ _ _ _ _ _ k.fit a quiet; ready_room = k.ready_room; fresh_room = k.fresh_room })
+    (record { one_death = k.one_death; run = run_push h.setup h.events e k.run a; fit = quiet_push h.setup h.events e _ _ _ _ _ _ _ k.fit k.run k.one_death a quiet; ready_room = k.ready_room; fresh_room = k.fresh_room })
 
 -- the next ready item was tried, and doesn't wait
 pub kept_taken : (h : History) (q : Queues) (item : ℕ) → QueuesKept h q → q.taken < length q.ready.items → item ≡ get_or q.ready.items q.taken item → (IsWaiting h.setup h.events item → ⊥) → QueuesKept h (record q { taken = q.taken + 1 })
 kept_taken h q item k l is not_waiting = record {
+  one_death = k.one_death;
   run = k.run;
   fit = record {
     users_len = k.fit.users_len;
@@ -102,11 +103,18 @@ kept_taken h q item k l is not_waiting = record {
 pub held_item_inside : (s : Setup) (es : List Event) (w i : ℕ) → IsRun s es → slot_at es w ≡ Holds i → i < items_of s.plan
 held_item_inside s es w i r h = (run_is_sound s es r).held_in_plan w i h
 
-pub reply_decides_only : (es : List Event) (w i c : ℕ) → DecidesOnly es (Reply w i c) i
-reply_decides_only es w i c = record {
+pub reply_decides_only : (s : Setup) (es : List Event) (w i c : ℕ) → DecidesOnly s es (Reply w i c) i
+reply_decides_only s es w i c = record {
   verdict = Done c;
   decides = ap (λ b. cond b (Some (Done c)) None) (eq-eqb i i refl);
   no_other = λ j apart. ap (λ b. cond b (Some (Done c)) None) (ne_eqb i j (λ e. apart (sym e)));
+}
+
+pub death_decides_only : (s : Setup) (es : List Event) (w i : ℕ) → IsRun s es → s.deaths ≡ 1 → slot_at es w ≡ Holds i → DecidesOnly s es (Death w) i
+death_decides_only s es w i r one h = record {
+  verdict = Blamed;
+  decides = death_blames s es w i r one h;
+  no_other = λ j apart. death_judges s es w j r one ∙ ap (λ b. cond b (Some Blamed) None) (ap (λ t. is_holding t j) h ∙ ne_eqb i j (λ e. apart (sym e)));
 }
 
 -- where nothing can start or be missing and not all is decided, a slot holds an undecided item
@@ -117,6 +125,10 @@ idle_told h w r inside idle no_start no_miss undecided hands =
       | inl held ↦ (let sound = run_is_sound h.setup h.events r in ((held.1.0, sound.held_in_plan held.0 held.1.0 held.1.1, sound.held_undecided held.0 held.1.0 held.1.1), held))
       | inr none ↦ absurd (undecided (stuck_is_done h.setup h.events w inside idle no_start no_miss none))
     ]
+
+-- misses leave the setup as it is
+pub setup_on : (old now h : History) → old ≡ now → AddsMisses old h → h.setup ≡ now.setup
+setup_on old now h same misses = ap (λ (x : History). x.setup) misses.new_is ∙ ap (λ (x : History). x.setup) same
 
 -- a slot that asked for work is still idle once the misses are made
 pub asks_on : (old now h : History) (w : ℕ) → old ≡ now → w < now.setup.slots → slot_at now.events w ≡ Idle → AddsMisses old h → (w < h.setup.slots) × (slot_at h.events w ≡ Idle)

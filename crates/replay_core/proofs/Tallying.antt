@@ -11,20 +11,20 @@ use Rattle.replay_core.specs.declared.event.Verdict.{Verdict}
 use Rattle.replay_core.specs.declared.event.Verdict.TheVariants.{Done, Blamed, Missing}
 use Rattle.replay_core.specs.Plans.{items_of}
 use Rattle.replay_core.specs.Runs.{Setup, verdict_of, verdict_list, AllDecided}
-use Rattle.replay_core.specs.Boards.{decide}
+use Rattle.replay_core.specs.Notes.{decide}
 use Rattle.replay_core.specs.Counting.{is_success, is_refused, is_blamed, is_missing, is_death, is_restart, is_retirement, IsTally, one_if, with_event, with_verdict, with_decided, AreSmall}
 
 pub length-verdict_list : (s : Setup) (es : List Event) → length (verdict_list s es) ≡ items_of s.plan
 unfolding verdict_list
-length-verdict_list s es = length-map-range_with_len (verdict_of es) 0 (items_of s.plan)
+length-verdict_list s es = length-map-range_with_len (verdict_of s es) 0 (items_of s.plan)
 
 -- the verdict that stands in the list at an item's place is the item's
-pub verdict_at : (s : Setup) (es : List Event) (i : ℕ) (d : Option Verdict) → i < items_of s.plan → get_or (verdict_list s es) i d ≡ verdict_of es i
+pub verdict_at : (s : Setup) (es : List Event) (i : ℕ) (d : Option Verdict) → i < items_of s.plan → get_or (verdict_list s es) i d ≡ verdict_of s es i
 unfolding verdict_list
-verdict_at s es i d l = get_or-map-range_with_len (verdict_of es) 0 (items_of s.plan) i i d l (omega arith)
+verdict_at s es i d l = get_or-map-range_with_len (verdict_of s es) 0 (items_of s.plan) i i d l (omega arith)
 
 -- a list that has the verdict of each item is the list of verdicts
-pub verdicts_are : (s : Setup) (es : List Event) (vs : List (Option Verdict)) → length vs ≡ items_of s.plan → ((i : ℕ) → i < items_of s.plan → get_or vs i None ≡ verdict_of es i) → vs ≡ verdict_list s es
+pub verdicts_are : (s : Setup) (es : List Event) (vs : List (Option Verdict)) → length vs ≡ items_of s.plan → ((i : ℕ) → i < items_of s.plan → get_or vs i None ≡ verdict_of s es i) → vs ≡ verdict_list s es
 verdicts_are s es vs len each =
     same_lists vs (verdict_list s es) (len ∙ sym (length-verdict_list s es)) (λ k d l.
     let inside : k < items_of s.plan = omega (arith, l, len) in
@@ -110,7 +110,7 @@ all_there [] h = refl
 all_there (o ∷ vs) h = omega (arith, decided_not_none o (h 0 (omega arith)), all_there vs (λ i l. h (suc i) (omega arith)), count_cons is_none o vs)
 
 -- all items are decided where as many verdicts are counted as there are items
-pub all_counted : (s : Setup) (es : List Event) (vs : List (Option Verdict)) (c : Counts) → IsTally es vs c → length vs ≡ items_of s.plan → ((i : ℕ) → i < items_of s.plan → get_or vs i None ≡ verdict_of es i) →
+pub all_counted : (s : Setup) (es : List Event) (vs : List (Option Verdict)) (c : Counts) → IsTally es vs c → length vs ≡ items_of s.plan → ((i : ℕ) → i < items_of s.plan → get_or vs i None ≡ verdict_of s es i) →
     (c.done + c.refused + c.blamed + c.missing ≡ length vs) ↔ AllDecided s es
 all_counted s es vs c t len each = (
   λ e i l u. none_left vs i (omega (arith, e, kinds vs, t.done, t.refused, t.blamed, t.missing)) (omega (arith, l, len)) (each i l ∙ u),

@@ -16,7 +16,7 @@ use Rattle.replay_core.specs.declared.event.SlotState.TheVariants.{Idle, Holds, 
 use Rattle.replay_core.specs.Plans.{deps_of}
 use Rattle.replay_core.specs.Runs.{Setup, next_state, slot_at, verdict_of, IsMet, IsLost, Allowed, GoesOn, NoStart, NoMiss, SomeHeld, AllDecided, IsRun}
 use Rattle.replay_core.specs.Histories.{History, with_events, room_of}
-use Rattle.replay_core.specs.Boards.{Keeps, FitsTogether}
+use Rattle.replay_core.specs.Notes.{Keeps, FitsTogether}
 use Rattle.replay_core.specs.Turns.{IsMiss, AddsMisses, SomeUndecided}
 use Rattle.replay_core.proofs.Steps.{GoesOn-push, GoesOn-append, slot_at-push, verdict_of-push, earlier}
 use Rattle.replay_core.proofs.Sound.{run_is_sound}
@@ -62,20 +62,20 @@ earlier_none : (o : Option Verdict) → earlier o None ≡ o
 earlier_none None = refl
 earlier_none (Some v) = refl
 
-verdict_after_start : (es : List Event) (w i j : ℕ) → verdict_of (es ++ Start w i ∷ []) j ≡ verdict_of es j
-verdict_after_start es w i j = verdict_of-push es (Start w i) j ∙ earlier_none (verdict_of es j)
+verdict_after_start : (s : Setup) (es : List Event) (w i j : ℕ) → verdict_of s (es ++ Start w i ∷ []) j ≡ verdict_of s es j
+verdict_after_start s es w i j = verdict_of-push s es (Start w i) j ∙ earlier_none (verdict_of s es j)
 
-met_before_start : (es : List Event) (w i : ℕ) (d : Dep) → IsMet (es ++ Start w i ∷ []) d → IsMet es d
-met_before_start es w i (Item j) h = sym (verdict_after_start es w i j) ∙ h
-met_before_start es w i (Absent key) h = h
+met_before_start : (s : Setup) (es : List Event) (w i : ℕ) (d : Dep) → IsMet s (es ++ Start w i ∷ []) d → IsMet s es d
+met_before_start s es w i (Item j) h = sym (verdict_after_start s es w i j) ∙ h
+met_before_start s es w i (Absent key) h = h
 
-lost_before_start : (plan : Plan) (es : List Event) (w i : ℕ) (d : Dep) → IsLost plan (es ++ Start w i ∷ []) d → IsLost plan es d
-lost_before_start plan es w i (Item j) h = elim h [ inl f ↦ inl f | inr y ↦ inr (subst (λ o. IsSomeAnd o (λ v. v ≢ Done 0)) (verdict_after_start es w i j) y) ]
-lost_before_start plan es w i (Absent key) h = h
+lost_before_start : (s : Setup) (es : List Event) (w i : ℕ) (d : Dep) → IsLost s (es ++ Start w i ∷ []) d → IsLost s es d
+lost_before_start s es w i (Item j) h = elim h [ inl f ↦ inl f | inr y ↦ inr (subst (λ o. IsSomeAnd o (λ v. v ≢ Done 0)) (verdict_after_start s es w i j) y) ]
+lost_before_start s es w i (Absent key) h = h
 
-lost_at_before_start : (plan : Plan) (es : List Event) (w i : ℕ) (o : Option Dep) → IsSomeAnd o (IsLost plan (es ++ Start w i ∷ [])) → IsSomeAnd o (IsLost plan es)
-lost_at_before_start plan es w i None h = h
-lost_at_before_start plan es w i (Some d) h = lost_before_start plan es w i d h
+lost_at_before_start : (s : Setup) (es : List Event) (w i : ℕ) (o : Option Dep) → IsSomeAnd o (IsLost s (es ++ Start w i ∷ [])) → IsSomeAnd o (IsLost s es)
+lost_at_before_start s es w i None h = h
+lost_at_before_start s es w i (Some d) h = lost_before_start s es w i d h
 
 held_after_start : (es : List Event) (w i v j : ℕ) → slot_at es w ≡ Idle → slot_at es v ≡ Holds j → slot_at (es ++ Start w i ∷ []) v ≡ Holds j
 held_after_start es w i v j idle h =
@@ -91,15 +91,15 @@ no_miss_after_start s es w i none a j p miss =
     none j p (record {
       waiting = record {
         in_plan = miss.waiting.in_plan;
-        undecided = sym (verdict_after_start es w i j) ∙ miss.waiting.undecided;
+        undecided = sym (verdict_after_start s es w i j) ∙ miss.waiting.undecided;
         in_no_hands = λ v h. miss.waiting.in_no_hands v (held_after_start es w i v j a.idle h);
       };
-      met = λ k d l. met_before_start es w i _ (miss.met k d l);
-      lost = lost_at_before_start s.plan es w i (slice_get (deps_of s.plan j) p) miss.lost;
+      met = λ k d l. met_before_start s es w i _ (miss.met k d l);
+      lost = lost_at_before_start s es w i (slice_get (deps_of s.plan j) p) miss.lost;
     })
 
 pub undecided_after_start : (s : Setup) (es : List Event) (w i : ℕ) → Allowed s es (Start w i) → AllDecided s (es ++ Start w i ∷ []) → ⊥
-undecided_after_start s es w i a all = all i a.waiting.in_plan (verdict_after_start es w i i ∙ a.waiting.undecided)
+undecided_after_start s es w i a all = all i a.waiting.in_plan (verdict_after_start s es w i i ∙ a.waiting.undecided)
 
 -- some slot of the list holds an item
 abbrev pub HeldIn : List SlotState → Type 0

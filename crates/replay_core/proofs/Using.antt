@@ -3,7 +3,7 @@ use Rattle.std.proofs.Common.{ℕ, zero, suc, ◌≡◌, ◌+◌, ◌<◌, ◌�
 use Rattle.std.specs.Prelude.{slice_get, sum_by, All, Vec}
 use Rattle.replay_core.specs.declared.plan.Plan.{Plan}
 use Rattle.replay_core.specs.Plans.{items_of, deps_of}
-use Rattle.replay_core.specs.Runs.{IsMet, GoesOn}
+use Rattle.replay_core.specs.Runs.{IsMet, GoesOn, setup_of}
 use Rattle.std.proofs.lemmas.List.{length-set, take_more, length_push, get_or_default, get_or-replicate, length-replicate, get_or_past, get_or_append_left, get_or_push}
 use Rattle.std.proofs.lemmas.Bool.{cases_eq, cases_lt}
 use Rattle.std.proofs.lemmas.List.Elements.{Contains-append_left, Contains-push, Contains-push_cases, Contains-get_or, All-replicate, All-nil, All-from_get_or}
@@ -103,7 +103,7 @@ users_more plan mid new deps i a b is short = record {
 
 -- the queues before any event
 pub fit_at_first : (plan : Plan) (slots : ℕ) (users : List (List ℕ)) (progress : List ℕ) (queued : List Bool) (fresh : List ℕ) → AreUsers plan (items_of plan) users → progress ≡ replicate (items_of plan) 0 → queued ≡ replicate (items_of plan) false → IsUpTo (items_of plan) fresh →
-    QueuesFit (record { plan = plan; slots = slots }) [] users progress queued [] 0 fresh 0
+    QueuesFit (setup_of plan slots) [] users progress queued [] 0 fresh 0
 fit_at_first plan slots users progress queued fresh a hp hq hf =
     let n = items_of plan in
     let zeros : (i : ℕ) → i < n → get_or progress i 0 ≡ 0 = λ i l. ap (λ xs. get_or xs i 0) hp ∙ get_or-replicate n i 0 0 l in
@@ -119,7 +119,7 @@ fit_at_first plan slots users progress queued fresh a hp hq hf =
       users_items = λ k d l. All-from_get_or (λ i. i < n) _ 0 (λ i m. a.items k _ (subst (λ row. Contains row (get_or (get_or users k d) i 0)) (get_or_default users k d [] l) (Contains-get_or (get_or users k d) i 0 m)));
       users_all = λ i p j l h u. a.all i p j l h;
       progress_inside = λ i l. rw (zeros i l) (omega arith);
-      progress_met = λ i l. subst (λ m. All (IsMet []) (take m (deps_of plan i))) (sym (zeros i l)) (All-nil (IsMet []));
+      progress_met = λ i l. subst (λ m. All (IsMet (setup_of plan slots) []) (take m (deps_of plan i))) (sym (zeros i l)) (All-nil (IsMet (setup_of plan slots) []));
       queued_met = λ i l h. absurd (let wrong : false ≡ true = sym (offs i l) ∙ h in cc);
       queued_ready = λ i w h. absurd (let wrong : false ≡ true = sym (offs i w.in_plan) ∙ h in cc);
       others_hang = λ i w h. inl (subst (Contains fresh) (hf.1 i w.in_plan) (Contains-get_or fresh i 0 (omega (arith, hf.0, w.in_plan))));
@@ -135,11 +135,12 @@ pub kept_at_first : (plan : Plan) (slots : ℕ) (q : Queues) (room : ℕ) → Ar
     items_of plan ≤ vec_capacity q.ready → items_of plan + room ≤ vec_capacity q.fresh → room ≡ sum_by (λ (v : Vec ℕ Global). length v.items) q.users.items → QueuesKept (at_first plan slots) q
 unfolding GoesOn
 kept_at_first plan slots q room a hp hq hr ht hf hh ready fresh is = record {
+  one_death = refl;
   run = tt;
   fit =
-      subst (λ n. QueuesFit (record { plan = plan; slots = slots }) [] (rows_of q.users) q.progress.items q.queued.items q.ready.items q.taken q.fresh.items n) (sym hh)
-      (subst (λ n. QueuesFit (record { plan = plan; slots = slots }) [] (rows_of q.users) q.progress.items q.queued.items q.ready.items n q.fresh.items 0) (sym ht)
-      (subst (λ xs. QueuesFit (record { plan = plan; slots = slots }) [] (rows_of q.users) q.progress.items q.queued.items xs 0 q.fresh.items 0) (sym hr)
+      subst (λ n. QueuesFit (setup_of plan slots) [] (rows_of q.users) q.progress.items q.queued.items q.ready.items q.taken q.fresh.items n) (sym hh)
+      (subst (λ n. QueuesFit (setup_of plan slots) [] (rows_of q.users) q.progress.items q.queued.items q.ready.items n q.fresh.items 0) (sym ht)
+      (subst (λ xs. QueuesFit (setup_of plan slots) [] (rows_of q.users) q.progress.items q.queued.items xs 0 q.fresh.items 0) (sym hr)
       (fit_at_first plan slots (rows_of q.users) q.progress.items q.queued.items q.fresh.items a hp hq hf)));
   ready_room =
       let few = count_by-le-length not q.queued.items in

@@ -14,16 +14,16 @@ use Rattle.replay_core.specs.declared.event.SlotState.TheVariants.{Idle, Holds, 
 use Rattle.replay_core.specs.declared.counts.Counts.{Counts}
 use Rattle.std.specs.Prelude.{nat_eq, ◌+◌, ◌≤◌}
 use Rattle.std.proofs.lemmas.Bool.{eqb-true, eq-eqb}
-use Rattle.replay_core.specs.Runs.{Setup, slot_at, verdict_list, AllDecided, IsWaiting}
+use Rattle.replay_core.specs.Runs.{Setup, slot_at, verdict_list, AllDecided, IsWaiting, setup_of}
 use Rattle.replay_core.specs.Histories.{History}
-use Rattle.replay_core.specs.Boards.{Keeps, FitsTogether, ProspectIn, IsProspect}
+use Rattle.replay_core.specs.Notes.{Keeps, FitsTogether, ProspectIn, IsProspect}
 use Rattle.replay_core.specs.Counting.{IsTally, IsCountOf}
 use Rattle.replay_core.proofs.Keeping.{inside_unless_idle, state_read}
 use Rattle.replay_core.proofs.Tallying.{verdicts_are, all_counted}
 
 -- what contracts see
 abbrev pub seen : Plan → List SlotState → List Event → History
-seen plan states es = record { setup = record { plan = plan; slots = length states }; events = es }
+seen plan states es = record { setup = setup_of plan (length states); events = es }
 
 module _ (plan : Plan) (marks : List Bool) (states : List SlotState) (verdicts : List (Option Verdict)) (es : List Event) (capacity : ℕ) (h : History) (w : ℕ) (fits : FitsTogether plan marks states verdicts es capacity) (is : seen plan states es ≡ h) where
   pub inside_unless : (state : SlotState) → slot_at h.events w ≡ state → (state ≡ Idle → ⊥) → w < length states
@@ -101,7 +101,7 @@ tally_seen plan marks states verdicts es capacity h counts fits tally is =
 pub decided_seen : (plan : Plan) (marks : List Bool) (states : List SlotState) (verdicts : List (Option Verdict)) (es : List Event) (capacity : ℕ) (h : History) (c : Counts) (n : ℕ) →
     FitsTogether plan marks states verdicts es capacity → IsTally es verdicts c → seen plan states es ≡ h → n ≡ length verdicts → IsTrue (nat_eq (c.done + c.refused + c.blamed + c.missing) n) ↔ AllDecided h.setup h.events
 decided_seen plan marks states verdicts es capacity h c n fits tally is len =
-    let counted = all_counted (record { plan = plan; slots = length states }) es verdicts c tally fits.keeps.items fits.keeps.each_verdict in
+    let counted = all_counted (setup_of plan (length states)) es verdicts c tally fits.keeps.items fits.keeps.each_verdict in
     subst (λ (h : History). IsTrue (nat_eq (c.done + c.refused + c.blamed + c.missing) n) ↔ AllDecided h.setup h.events) is
     (λ e. counted.0 (eqb-true (c.done + c.refused + c.blamed + c.missing) n e ∙ len), λ all. eq-eqb (c.done + c.refused + c.blamed + c.missing) n (counted.1 all ∙ sym len))
 

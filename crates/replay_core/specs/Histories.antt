@@ -5,7 +5,7 @@ use Rattle.replay_core.specs.declared.plan.Dep.{Dep}
 use Rattle.replay_core.specs.declared.plan.Dep.TheVariants.{Item, Absent}
 use Rattle.replay_core.specs.declared.event.Event.{Event}
 use Rattle.replay_core.specs.Plans.{items_of}
-use Rattle.replay_core.specs.Runs.{Setup}
+use Rattle.replay_core.specs.Runs.{Setup, setup_of}
 
 pub record History : Type 0 where
   pub setup : Setup
@@ -37,4 +37,4 @@ pub record IsPlan (plan : Plan) : Type 0 where
 
 -- nothing has happened
 abbrev pub at_first : Plan → ℕ → History
-at_first plan slots = record { setup = record { plan = plan; slots = slots }; events = [] }
+at_first plan slots = record { setup = setup_of plan slots; events = [] }

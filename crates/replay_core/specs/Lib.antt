@@ -1,7 +1,8 @@
 pub mod Plans
+pub mod Ranks
 pub mod Runs
 pub mod Histories
-pub mod Boards
+pub mod Notes
 pub mod Turns
 pub mod Fates
 pub mod Laws

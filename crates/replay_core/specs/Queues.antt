@@ -13,7 +13,7 @@ use Rattle.replay_core.specs.Runs.{Setup, verdict_by, verdict_of, IsMet, IsWaiti
 
 -- item i has come as far as the dependency at `place`, which is founded and still undecided
 abbrev pub HangsAt : Setup → List Event → ℕ → ℕ → Type 0
-HangsAt s es place i = (j : ℕ) × (slice_get (deps_of s.plan i) place ≡ Some (Item j)) × Founded s.plan j × (verdict_of es j ≡ None)
+HangsAt s es place i = (j : ℕ) × (slice_get (deps_of s.plan i) place ≡ Some (Item j)) × Founded s.plan j × (verdict_of s es j ≡ None)
 
 -- users: for each undecided item those that depend on it; progress: for each item how many of its dependencies are known to be met;
 -- queued: the items that were found ready, all of them in `ready`, of which the first `taken` were tried; fresh: the items to look at, of which the first `head` were
@@ -26,10 +26,10 @@ pub record QueuesFit (s : Setup) (es : List Event) (users : List (List ℕ)) (pr
   pub fresh_items : All (λ i. i < items_of s.plan) fresh
   pub ready_items : All (λ i. (i < items_of s.plan) × (slice_index_or queued i false ≡ true)) ready
   pub users_items : All (All (λ i. i < items_of s.plan)) users
-  pub users_all : (i p j : ℕ) → i < items_of s.plan → slice_get (deps_of s.plan i) p ≡ Some (Item j) → verdict_of es j ≡ None → Contains (slice_index_or users j []) i
+  pub users_all : (i p j : ℕ) → i < items_of s.plan → slice_get (deps_of s.plan i) p ≡ Some (Item j) → verdict_of s es j ≡ None → Contains (slice_index_or users j []) i
   pub progress_inside : (i : ℕ) → i < items_of s.plan → slice_index_or progress i 0 ≤ length (deps_of s.plan i)
-  pub progress_met : (i : ℕ) → i < items_of s.plan → All (IsMet es) (take (slice_index_or progress i 0) (deps_of s.plan i))
-  pub queued_met : (i : ℕ) → i < items_of s.plan → slice_index_or queued i false ≡ true → All (IsMet es) (deps_of s.plan i)
+  pub progress_met : (i : ℕ) → i < items_of s.plan → All (IsMet s es) (take (slice_index_or progress i 0) (deps_of s.plan i))
+  pub queued_met : (i : ℕ) → i < items_of s.plan → slice_index_or queued i false ≡ true → All (IsMet s es) (deps_of s.plan i)
   pub queued_ready : (i : ℕ) → IsWaiting s es i → slice_index_or queued i false ≡ true → Contains (drop taken ready) i
   pub others_hang : (i : ℕ) → IsWaiting s es i → slice_index_or queued i false ≡ false → Contains (drop head fresh) i ⊎ HangsAt s es (slice_index_or progress i 0) i
 
@@ -42,16 +42,17 @@ rows q = rows_of q.users
 
 -- the queues fit the history, which is a run, and have room for all that may still come into them
 pub record QueuesKept (h : History) (q : Queues) : Type 0 where
+  pub one_death : h.setup.deaths ≡ 1
   pub run : IsRun h.setup h.events
   pub fit : QueuesFit h.setup h.events (rows q) q.progress.items q.queued.items q.ready.items q.taken q.fresh.items q.head
   pub ready_room : length q.ready.items + count_by not q.queued.items ≤ vec_capacity q.ready
   pub fresh_room : length q.fresh.items + sum_by length (rows q) ≤ vec_capacity q.fresh
 
 -- the event gives item k a verdict, and no other item
-pub record DecidesOnly (es : List Event) (e : Event) (k : ℕ) : Type 0 where
+pub record DecidesOnly (s : Setup) (es : List Event) (e : Event) (k : ℕ) : Type 0 where
   pub verdict : Verdict
-  pub decides : verdict_by es e k ≡ Some verdict
-  pub no_other : (j : ℕ) → j ≢ k → verdict_by es e j ≡ None
+  pub decides : verdict_by s es e k ≡ Some verdict
+  pub no_other : (j : ℕ) → j ≢ k → verdict_by s es e j ≡ None
 
 -- what was to be looked at stays in its place
 abbrev pub FreshGrows : Queues → Queues → Type 0

@@ -1,7 +1,7 @@
 ghost use Rattle.std.specs.Prelude.{◌≡◌, ◌<◌, ◌≤◌, length, take, All, IfOk, OnOk};
 ghost use Rattle.replay_core.specs.Plans.{items_of, deps_of};
 ghost use Rattle.replay_core.specs.Histories.{IsInRange, IsPlan};
-ghost use Rattle.replay_core.specs.Boards.{MarksFounded};
+ghost use Rattle.replay_core.specs.Notes.{MarksFounded};
 ghost use Rattle.replay_core.specs.Searching.{is_marked_dep, is_marked_in, looks_of, GrowsFresh, IsMarked, IsSearch, StopsAt, WasLookedAt};
 
 use crate::plan::{Dep, Plan};

@@ -7,7 +7,6 @@ mod event;
 mod founded;
 mod laws;
 mod notes;
-mod plain;
 mod plan;
 mod prospect;
 mod queues;
@@ -20,11 +19,10 @@ pub use answer::Next;
 pub use counts::Counts;
 pub use event::{Event, SlotState, Verdict};
 pub use laws::{
-    blamed_in_hands, fates_are_unique, founded_is_least, one_verdict, restarts_follow_deaths,
-    same_outcomes_same_verdicts, same_replies_same_verdicts, starts_after_dependencies,
-    stuck_is_done, verdicts_are_fates,
+    blamed_in_hands, fates_are_unique, fates_exist, founded_is_least, one_verdict, ranks_fall,
+    restarts_follow_deaths, same_outcomes_same_verdicts, same_replies_same_verdicts, slot_events,
+    starts_after_dependencies, stuck_is_done, verdicts_are_fates,
 };
-pub use plain::PlainCore;
 pub use plan::{Dep, Plan};
 pub use scheduler::Core;
 

@@ -1,6 +1,6 @@
 ghost use Rattle.std.specs.Prelude.{◌≡◌, ◌<◌, ◌≤◌, ◌^◌, take, ◌↔◌, length, All, IsTrue};
 ghost use Rattle.replay_core.specs.Histories.{IsInRange};
-ghost use Rattle.replay_core.specs.Boards.{MetIn, LostIn, ProspectIn};
+ghost use Rattle.replay_core.specs.Notes.{MetIn, LostIn, ProspectIn};
 
 use crate::event::Verdict;
 use crate::plan::Dep;

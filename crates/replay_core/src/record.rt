@@ -2,7 +2,7 @@ ghost use Rattle.std.specs.Prelude.{◌≡◌, ◌∷◌, [], ◌<◌, ◌≤◌
 ghost use Rattle.replay_core.specs.Plans.{items_of, deps_of};
 ghost use Rattle.replay_core.specs.Runs.{Allowed, AllDecided, IsMet, IsWaiting, SomeHeld, slot_at, verdict_list, IsRun};
 ghost use Rattle.replay_core.specs.Histories.{with_events, room_of, at_first, IsPlan};
-ghost use Rattle.replay_core.specs.Boards.{IsProspect};
+ghost use Rattle.replay_core.specs.Notes.{IsProspect};
 ghost use Rattle.replay_core.specs.Counting.{IsCountOf};
 
 use crate::counts::{Counts, counts_at_first, counts_with_decided, counts_with_event};
@@ -30,11 +30,12 @@ impl Model for Record {
     ghost use Rattle.std.specs.Prelude.{length, vec_capacity};
     ghost use Rattle.replay_core.specs.Counting.{IsTally};
     ghost use Rattle.replay_core.specs.Histories.{History};
-    ghost use Rattle.replay_core.specs.Boards.{FitsTogether};
+    ghost use Rattle.replay_core.specs.Runs.{setup_of};
+    ghost use Rattle.replay_core.specs.Notes.{FitsTogether};
 
     ghost Value = { History };
 
-    ghost view = { λ a. record { setup = record { plan = a.plan; slots = length a.states.items }; events = a.events.items } };
+    ghost view = { λ a. record { setup = setup_of a.plan (length a.states.items); events = a.events.items } };
 
     ghost invariant = { λ a. FitsTogether a.plan a.founded.items a.states.items a.verdicts.items a.events.items (vec_capacity a.events) × IsTally a.events.items a.verdicts.items a.counts };
 }
@@ -65,7 +66,8 @@ impl Record {
     /// Adds an event.
     pub fn add(&mut self, event: Event)
         requires { Allowed self.old.setup self.old.events event }
-        ensures { self.new ≡ with_events self.old (event ∷ []) }
+        ensures added { self.new ≡ with_events self.old (event ∷ []) }
+        ensures never_passed { length self.new.events ≤ room_of self.new.setup }
     {
         let decided = judge(self.states.as_slice(), event);
         self.counts = counts_with_decided(counts_with_event(self.counts, event), decided);
@@ -103,7 +105,7 @@ impl Record {
     pub fn prospect(&self, item: u32, from: u32) -> Prospect
         requires inside { item < items_of self.now.setup.plan }
         requires from { from ≤ length (deps_of self.now.setup.plan item) }
-        requires met { All (IsMet self.now.events) (take from (deps_of self.now.setup.plan item)) }
+        requires met { All (IsMet self.now.setup self.now.events) (take from (deps_of self.now.setup.plan item)) }
         ensures { IsProspect self.now.setup self.now.events item result }
     {
         let rows = self.plan.deps.as_slice();
@@ -116,18 +118,12 @@ impl Record {
         )
     }
 
-    /// How many items there are.
-    pub fn items(&self) -> u32
-        ensures { result ≡ items_of self.now.setup.plan }
-    {
-        self.verdicts.len() as u32
-    }
-
     /// Every item has a verdict.
     pub fn all_decided(&self) -> bool
         ensures all { IsTrue result ↔ AllDecided self.now.setup self.now.events }
         ensures run { IsRun self.now.setup self.now.events }
         ensures hands { SomeHeld self.now.events ⊎ (SomeHeld self.now.events → ⊥) }
+        ensures never_passed { length self.now.events ≤ room_of self.now.setup }
     {
         let counts = self.counts;
         let decided = counts.done + counts.refused + counts.blamed + counts.missing;

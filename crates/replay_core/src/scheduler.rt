@@ -2,7 +2,7 @@ ghost use Rattle.std.specs.Prelude.{◌≡◌, ◌∷◌, [], ◌<◌, ◌≤◌
 ghost use Rattle.replay_core.specs.Runs.{AllDecided, NoMiss, slot_at, verdict_list, IsRun};
 ghost use Rattle.replay_core.specs.Histories.{with_events, room_of, at_first, IsPlan};
 ghost use Rattle.replay_core.specs.Counting.{IsCountOf};
-ghost use Rattle.replay_core.specs.Turns.{state_told, TakesTurn};
+ghost use Rattle.replay_core.specs.Turns.{state_told, IsFoundedWork, TakesTurn};
 
 use crate::answer::Next;
 use crate::counts::Counts;
@@ -55,6 +55,8 @@ impl Core {
         ensures no_miss { NoMiss self.new.setup self.new.events }
         ensures slot { slot_at self.new.events slot ≡ state_told result }
         ensures finished { (result ≡ Next.Finished) ↔ AllDecided self.new.setup self.new.events }
+        ensures founded { IsFoundedWork self.old.setup.plan result }
+        ensures never_passed { length self.new.events ≤ room_of self.new.setup }
     {
         settle(&mut self.record, &mut self.queues);
         if let Some(item) = first_ready(&self.record, &mut self.queues) {
@@ -72,7 +74,8 @@ impl Core {
     /// The slot's worker answered for the item in its hands.
     pub fn reply(&mut self, slot: u32, code: u32)
         requires held { (i : ℕ) × (slot_at self.old.events slot ≡ SlotState.Holds i) }
-        ensures { (i : ℕ) → slot_at self.old.events slot ≡ SlotState.Holds i → self.new ≡ with_events self.old (Event.Reply slot i code ∷ []) }
+        ensures added { (i : ℕ) → slot_at self.old.events slot ≡ SlotState.Holds i → self.new ≡ with_events self.old (Event.Reply slot i code ∷ []) }
+        ensures never_passed { length self.new.events ≤ room_of self.new.setup }
     {
         let item = self.record.held_item(slot);
         let event = Event::Reply { slot, item, code };
@@ -82,7 +85,8 @@ impl Core {
     /// The slot's worker died over the item in its hands.
     pub fn death(&mut self, slot: u32)
         requires held { (i : ℕ) × (slot_at self.old.events slot ≡ SlotState.Holds i) }
-        ensures { self.new ≡ with_events self.old (Event.Death slot ∷ []) }
+        ensures added { self.new ≡ with_events self.old (Event.Death slot ∷ []) }
+        ensures never_passed { length self.new.events ≤ room_of self.new.setup }
     {
         let item = self.record.held_item(slot);
         decide(
@@ -97,7 +101,8 @@ impl Core {
     pub fn retire(&mut self, slot: u32)
         requires slot { slot < self.old.setup.slots }
         requires at_rest { (slot_at self.old.events slot ≡ SlotState.Dead) ⊎ (slot_at self.old.events slot ≡ SlotState.Idle) }
-        ensures { self.new ≡ with_events self.old (Event.Retire slot ∷ []) }
+        ensures added { self.new ≡ with_events self.old (Event.Retire slot ∷ []) }
+        ensures never_passed { length self.new.events ≤ room_of self.new.setup }
     {
         self.record.add(Event::Retire { slot });
     }
@@ -105,7 +110,8 @@ impl Core {
     /// The slot has a new worker.
     pub fn restart(&mut self, slot: u32)
         requires { slot_at self.old.events slot ≡ SlotState.Dead }
-        ensures { self.new ≡ with_events self.old (Event.Restart slot ∷ []) }
+        ensures added { self.new ≡ with_events self.old (Event.Restart slot ∷ []) }
+        ensures never_passed { length self.new.events ≤ room_of self.new.setup }
     {
         self.record.add(Event::Restart { slot });
     }

@@ -1,7 +1,7 @@
 ghost use Rattle.std.specs.Prelude.{◌≡◌, ◌≢◌, ◌<◌, ◌≤◌, ◌+◌, ◌∷◌, [], ℕ, None, Some, IfSome, IfNone, false, length, slice_index_or, sum_by, All};
 ghost use Rattle.replay_core.specs.Plans.{items_of, deps_of};
 ghost use Rattle.replay_core.specs.Runs.{Allowed, IsMet, IsWaiting, NoMiss, NoStart, verdict_by};
-ghost use Rattle.replay_core.specs.Histories.{with_events};
+ghost use Rattle.replay_core.specs.Histories.{room_of, with_events};
 ghost use Rattle.replay_core.specs.Turns.{AddsMisses};
 ghost use Rattle.replay_core.specs.Queues.{rows, DecidesOnly, FreshGrows, LookedAt, QueuesKept, work_of};
 
@@ -15,9 +15,10 @@ pub fn decide(story: &mut Record, queues: &mut Queues, event: Event, item: u32)
     requires kept { QueuesKept story.old queues.old }
     requires allowed { Allowed story.old.setup story.old.events event }
     requires inside { item < items_of story.old.setup.plan }
-    requires decides { DecidesOnly story.old.events event item }
+    requires decides { DecidesOnly story.old.setup story.old.events event item }
     ensures kept { QueuesKept story.new queues.new }
     ensures added { story.new ≡ with_events story.old (event ∷ []) }
+    ensures never_passed { length story.new.events ≤ room_of story.new.setup }
     ensures head { queues.new.head ≡ queues.old.head }
     ensures fresh { FreshGrows queues.old queues.new }
     ensures work { work_of queues.new ≡ work_of queues.old }
@@ -77,7 +78,7 @@ pub fn first_ready(story: &Record, queues: &mut Queues) -> Option<u32>
     ensures kept { QueuesKept story.now queues.new }
     ensures done { queues.new.head ≡ length queues.new.fresh.items }
     ensures waits { IfSome result (IsWaiting story.now.setup story.now.events) }
-    ensures met { IfSome result (λ item. All (IsMet story.now.events) (deps_of story.now.setup.plan item)) }
+    ensures met { IfSome result (λ item. All (IsMet story.now.setup story.now.events) (deps_of story.now.setup.plan item)) }
     ensures inside { IfSome result (λ item. queues.new.taken < length queues.new.ready.items) }
     ensures first { IfSome result (λ item. item ≡ slice_index_or queues.new.ready.items queues.new.taken item) }
     ensures none { IfNone result (queues.new.taken ≡ length queues.new.ready.items) }

@@ -1,3 +1,4 @@
+pub mod Decided
 pub mod Ranges
 pub mod Rows
 pub mod Texts

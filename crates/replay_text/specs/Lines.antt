@@ -11,12 +11,13 @@ use Rattle.replay_core.specs.declared.event.Verdict.TheVariants.{Done, Blamed, M
 use Rattle.dep_graph.specs.declared.class.Class.{Class}
 use Rattle.dep_graph.specs.declared.class.Class.TheVariants.{Damaged, Duplicate, Kept, Unreadable, Item}
 use Rattle.dep_graph.specs.declared.graph.Graph.{Graph}
+use Rattle.dep_graph.specs.Graphs.{entry_at}
 use Rattle.report_words.specs.Words.{damage_words}
 use Rattle.replay_text.specs.Words.{unreadable_words}
 
 -- the key of the item with this number
 abbrev pub item_key : List Entry → Graph → ℕ → Option Key
-item_key entries graph item = option_and_then (λ place. option_map (λ (entry : Entry). entry.head.key) (slice_get entries place)) (slice_get graph.items item)
+item_key entries graph item = option_map (λ (entry : Entry). entry.head.key) (entry_at entries graph item)
 
 -- the key that a dependency names
 abbrev pub dep_key : List Entry → Graph → Dep → Option Key

@@ -2,11 +2,13 @@
 #![tactic(auto)]
 
 mod counts;
+mod laws;
 mod lines;
 mod overall;
 mod text;
 mod words;
 
+pub use laws::decided_is_answered;
 pub use overall::Overall;
 pub use text::push_replay;
 

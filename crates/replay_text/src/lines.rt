@@ -3,7 +3,7 @@ ghost use Rattle.std.specs.Prelude.{◌≡◌, ◌++◌, Some, None, OnOk, OnErr
 ghost use Rattle.replay_text.specs.Lines.{item_key, dep_key, missing_key, missing_words, verdict_words, verdict_in, class_words, line_of, line_at};
 
 use crate::words::unreadable_words;
-use dep_graph::{Class, Graph};
+use dep_graph::{Class, Graph, find_entry};
 use foz_entry::Entry;
 use foz_words::{Key, NoMemory};
 use replay_core::{Dep, Verdict};
@@ -14,11 +14,8 @@ use std::alloc::Global;
 fn item_key(entries: &[Entry], graph: &Graph, item: u32) -> Option<Key>
     ensures { result ≡ item_key entries.now graph.now item }
 {
-    match graph.items.as_slice().get(item as usize) {
-        Some(place) => match entries.get(*place as usize) {
-            Some(entry) => Some(entry.head.key),
-            None => None,
-        },
+    match find_entry(graph, entries, item) {
+        Some(entry) => Some(entry.head.key),
         None => None,
     }
 }

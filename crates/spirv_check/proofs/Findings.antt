@@ -11,7 +11,8 @@ use Rattle.spirv_check.specs.declared.error.SpirvError.TheVariants.{MemoryModels
 use Rattle.spirv_check.specs.declared.shape.EntryPoint.{EntryPoint}
 use Rattle.spirv_check.specs.Names.{entry_in}
 use Rattle.spirv_check.specs.declared.seen.Seen.{Seen}
-use Rattle.spirv_check.specs.Modules.{Instruction, opcode_of, is_model, begin_fault, end_fault, opened_next, turn_fault, shape_of, named_of, closed_of, turns_of, judged_of, first_turn, entry_at, bad_name_at, first_bad_name, seen_in, seen_next}
+use Rattle.spirv_check.specs.Modules.{Instruction, opcode_of, is_model, begin_fault, end_fault, opened_next, turn_fault, shape_of, named_of, closed_of, turns_of, first_turn, entry_at, bad_name_at, first_bad_name}
+use Rattle.spirv_check.specs.Seen.{seen_in, seen_next, judged_of}
 
 none_after : {T : Type 0} (o : Option T) → option_or o None ≡ o
 none_after None = refl

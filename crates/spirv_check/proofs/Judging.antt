@@ -1,6 +1,7 @@
 -- One answer.
 use Rattle.std.proofs.Common.{ℕ, ◌≡◌, ◌≢◌, ◌≤◌, inl, inr, List, [], length, get_or, drop, Result, Err, refl, ap, sym, ◌∙◌, arith}
-use Rattle.spirv_check.specs.Modules.{magic, IsBadLength, IsWalked, IsUnwalked, judged, judged_of}
+use Rattle.spirv_check.specs.Modules.{magic, IsBadLength, judged}
+use Rattle.spirv_check.specs.Seen.{IsWalked, IsUnwalked, seen_in, judged_of}
 use Rattle.spirv_check.specs.Answers.{Answers, short, bad_magic, bad_reserved, bad_length, framed, no_memory, IsBadHeader, IsJudged, IsShort, HasBadMagic, HasBadReserved}
 use Rattle.spirv_check.specs.declared.shape.Shape.{Shape}
 use Rattle.spirv_check.specs.declared.seen.Seen.{Seen}
@@ -94,5 +95,5 @@ walk_answers words fault u = elim u [
 ]
 
 pub judge_answers : (words : List ℕ) (seen : Seen) (answer : Answer) → IsWalked words seen → answer ≡ judged_of seen → Answers words answer
-unfolding judged
+unfolding judged judged_of seen_in
 judge_answers words seen answer w e = framed (record { instructions = w.instructions; whole = w.whole; is = e ∙ ap judged_of w.is })

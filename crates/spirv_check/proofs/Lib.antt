@@ -3,3 +3,4 @@ pub mod Findings
 pub mod Naming
 pub mod Judging
 pub mod Walking
+pub mod Answered

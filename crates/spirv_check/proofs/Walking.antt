@@ -1,7 +1,8 @@
 -- The walk over the instructions.
 use Rattle.std.proofs.Common.{ℕ, ◌≡◌, ◌+◌, ◌-◌, ◌/◌, ◌<◌, ◌≤◌, ◌⊎◌, inl, inr, List, [], ◌∷◌, ◌++◌, length, get_or, take, drop, refl, ap, sym, subst, ◌∙◌, arith}
 use Rattle.std.proofs.lemmas.List.{length-drop, length-take-le, take-append-drop, drop-drop, get_or-take, get_or-drop, drop_all}
-use Rattle.spirv_check.specs.Modules.{Instruction, count_of, HasHeader, IsFramed, IsBadLength, IsWalked, Splits, seen_in, seen_next}
+use Rattle.spirv_check.specs.Modules.{Instruction, count_of, HasHeader, IsFramed, IsBadLength, Splits}
+use Rattle.spirv_check.specs.Seen.{IsWalked, seen_in, seen_next}
 use Rattle.spirv_check.specs.declared.seen.Seen.{Seen}
 use Rattle.spirv_check.proofs.Framing.{Splits-push}
 use Rattle.spirv_check.proofs.Findings.{seen_in-push, models_next}

@@ -5,9 +5,8 @@ use Rattle.std.specs.List.{filter_map}
 use Rattle.spirv_check.specs.Names.{entry_in}
 use Rattle.spirv_check.specs.declared.shape.EntryPoint.{EntryPoint}
 use Rattle.spirv_check.specs.declared.shape.Shape.{Shape}
-use Rattle.spirv_check.specs.declared.seen.Seen.{Seen}
 use Rattle.spirv_check.specs.declared.error.SpirvError.{SpirvError}
-use Rattle.spirv_check.specs.declared.error.SpirvError.TheVariants.{BadLength, MemoryModels, Nested, Unopened, Unclosed, BadName, NoEntryPoint, Memory}
+use Rattle.spirv_check.specs.declared.error.SpirvError.TheVariants.{MemoryModels, Nested, Unopened, Unclosed, BadName, NoEntryPoint}
 
 abbrev pub magic : ℕ
 magic = 0x07230203
@@ -110,22 +109,8 @@ unfoldable pub first_bad_name : List Instruction → Option ℕ
 first_bad_name [] = None
 first_bad_name (i ∷ is) = option_or (bad_name_at i) (first_bad_name is)
 
--- ---- what all instructions are together
+-- ---- what all instructions come to
 
-unfoldable pub seen_in : List Instruction → Seen
-seen_in is = record { models = count_by is_model is; turn = first_turn None is; opened = opened_after None is; bad_name = first_bad_name is; entries = filter_map entry_at is }
-
--- and with one more
-unfoldable pub seen_next : Seen → Instruction → Seen
-seen_next seen i = record {
-  models = if is_model i then seen.models + 1 else seen.models;
-  turn = option_or seen.turn (turn_fault seen.opened i);
-  opened = opened_next seen.opened i;
-  bad_name = option_or seen.bad_name (bad_name_at i);
-  entries = seen.entries ++ filter_map entry_at (i ∷ []);
-}
-
--- the first fault of a module whose instructions are framed, or its shape
 unfoldable pub shape_of : List EntryPoint → Result Shape SpirvError
 shape_of [] = Err NoEntryPoint
 shape_of (entry ∷ entries) = Ok (record { entries = entry ∷ entries })
@@ -142,18 +127,9 @@ unfoldable pub turns_of : Option SpirvError → Option ℕ → Option ℕ → Li
 turns_of (Some fault) opened bad_name entries = Err fault
 turns_of None opened bad_name entries = closed_of opened bad_name entries
 
-unfoldable pub judged_of : Seen → Result Shape SpirvError
-judged_of seen = if seen.models == 1 then turns_of seen.turn seen.opened seen.bad_name seen.entries else Err (MemoryModels seen.models)
-
+-- the first fault of a module whose instructions are framed, or its shape
 unfoldable pub judged : List Instruction → Result Shape SpirvError
-judged instructions = judged_of (seen_in instructions)
-
--- all instructions were seen
-pub record IsWalked (words : List ℕ) (seen : Seen) : Type 0 where
-  pub instructions : List Instruction
-  pub whole : IsModule words instructions
-  pub is : seen ≡ seen_in instructions
-
--- why not
-abbrev pub IsUnwalked : List ℕ → SpirvError → Type 0
-IsUnwalked words fault = (fault ≡ Memory) ⊎ ((at : ℕ) × (fault ≡ BadLength at) × IsBadLength words at)
+judged is =
+    if count_by is_model is == 1
+    then turns_of (first_turn None is) (opened_after None is) (first_bad_name is) (filter_map entry_at is)
+    else Err (MemoryModels (count_by is_model is))

@@ -10,7 +10,7 @@ mod seen;
 mod shape;
 
 pub use error::SpirvError;
-pub use laws::one_framing;
+pub use laws::{one_answer, one_framing};
 pub use module::check;
 pub use shape::{EntryPoint, Shape};
 

@@ -1,8 +1,8 @@
-ghost use Rattle.std.specs.Prelude.{◌≡◌, ◌≢◌, Result, Err, MatchResult};
-ghost use Rattle.spirv_check.specs.Modules.{HasHeader, IsWalked, IsUnwalked};
+ghost use Rattle.std.specs.Prelude.{◌≡◌, ◌≢◌, Err, MatchResult};
+ghost use Rattle.spirv_check.specs.Modules.{HasHeader};
+ghost use Rattle.spirv_check.specs.Seen.{IsWalked, IsUnwalked};
 ghost use Rattle.spirv_check.specs.Answers.{Answers, IsBadHeader};
-ghost use Rattle.spirv_check.specs.declared.shape.Shape.{Shape};
-ghost use Rattle.spirv_check.specs.declared.error.SpirvError.{SpirvError};
+ghost use Rattle.spirv_check.specs.Answered.{answer_of};
 ghost use Rattle.spirv_check.specs.declared.error.SpirvError.TheVariants.{Memory};
 
 use crate::error::SpirvError;
@@ -17,8 +17,8 @@ const HEADER: usize = 5;
 /// The shape of a module, or its first fault.
 pub fn check(alloc: Global, words: &[u32]) -> Result<Shape, SpirvError>
     ensures answer { Answers words.now result }
-    // No other answer fits, unless memory ran out.
-    ensures only { (other : Result Shape SpirvError) → other ≢ Err Memory → result ≢ Err Memory → Answers words.now other → result ≡ other }
+    // It is the one that fits the words, unless memory ran out.
+    ensures only { result ≢ Err Memory → result ≡ answer_of words.now }
 {
     check_words(alloc, words)
 }

@@ -1,6 +1,7 @@
 // What was seen of a module so far.
 ghost use Rattle.std.specs.Prelude.{◌≡◌, ◌≤◌, ◌<◌, ◌+◌, [], None, length, OnOk, Result};
-ghost use Rattle.spirv_check.specs.Modules.{Instruction, begin_fault, end_fault, seen_next, judged_of};
+ghost use Rattle.spirv_check.specs.Modules.{Instruction, begin_fault, end_fault};
+ghost use Rattle.spirv_check.specs.Seen.{seen_next, judged_of};
 
 use crate::error::SpirvError;
 use crate::names::entry_of;

@@ -1,7 +1,7 @@
 -- What taking a message answers, and that it answers one thing alone.
-use Rattle.std.proofs.Common.{ℕ, ◌≡◌, ◌≢◌, ◌+◌, ◌≤◌, List, [], ◌++◌, length, take, drop, Option, Some, None, Result, Ok, Err, refl, ap, sym, subst, ◌∙◌, append_assoc, arith}
+use Rattle.std.proofs.Common.{ℕ, ◌≡◌, ◌≢◌, ◌+◌, ◌<◌, ◌≤◌, List, [], ◌∷◌, ◌++◌, length, take, drop, Option, Some, None, Result, Ok, Err, OnOk, OnErr, refl, ap, sym, subst, ◌∙◌, append_assoc, arith}
 use Rattle.std.specs.Prelude.{◌↔◌}
-use Rattle.std.proofs.lemmas.List.{length-append, take_at}
+use Rattle.std.proofs.lemmas.List.{length-append, take_at, nil_from_length}
 use Rattle.foz_words.specs.Bytes.{le32, le64}
 use Rattle.foz_words.specs.declared.key.Key.{Key}
 use Rattle.foz_words.proofs.Words.{length-le32, length-le64, le32-append-injective, le64-append-injective}
@@ -15,7 +15,7 @@ use Rattle.worker_msg.specs.declared.side.Side.{Side}
 use Rattle.worker_msg.specs.declared.side.Side.TheVariants.{Worker, Crew}
 use Rattle.worker_msg.specs.declared.error.TakeFrame.{TakeFrame}
 use Rattle.worker_msg.specs.declared.error.TakeFrame.TheVariants.{BadFrame, Memory}
-use Rattle.worker_msg.proofs.Parts.{body_short, one_frame}
+use Rattle.worker_msg.proofs.Parts.{body_short, one_frame, length-framed}
 use Rattle.worker_msg.proofs.Exclusive.{whole_or_partial, whole_or_bad, partial_or_bad, one_place}
 use Rattle.worker_msg.proofs.Whole.{key_long}
 
@@ -162,3 +162,43 @@ pub crew_remembers : (old : Feeding) (result : Taken) (new : Feeding) → Answer
 crew_remembers old result new a crew e =
     let wants = (subst (λ (r : Taken). Answers old r new) e a).0 in
     no_payload wants.message (subst (λ (s : Side). Sent s wants.message) crew wants.sent) wants.carries
+
+-- ---- what a crew's feed lacks, and bad frames that stay
+
+crew_body : (body : List ℕ) → IsBody Crew body → length body ≤ 17
+crew_body body (frames.hello s e) = let long = ap length e in omega arith
+crew_body body (frames.load s fields e least most) = absurd cc
+crew_body body (frames.work s fields e least most) = absurd cc
+crew_body body (frames.reply s fields e size) = let long = ap length e in omega arith
+crew_body body (frames.quit s e) = absurd cc
+
+pub crew_short : (bytes : List ℕ) → IsPartial Crew bytes → length bytes < 21
+crew_short bytes p =
+    let b = p.begins in
+    let small = crew_body b.body b.is_body in
+    let size = length-framed b.body in
+    let parts : length (framed b.body) ≡ length bytes + length b.rest = ap length b.parts ∙ length-append bytes b.rest in
+    let some : length b.rest ≢ 0 = λ none. p.more (nil_from_length b.rest none) in
+    omega arith
+
+pub crew_lacks : (old : Feeding) (result : Taken) (new : Feeding) → Answers old result new → old.side ≡ Crew → result ≡ Ok None → length old.kept < 21
+crew_lacks old result new a crew none = crew_short old.kept (subst (λ (s : Side). IsPartial s old.kept) crew ((none_exactly old result new a).0 none))
+
+pub bad_stays : (side : Side) (bytes more : List ℕ) (place : ℕ) → IsBad side bytes place → IsBad side (bytes ++ more) place
+bad_stays side bytes more place b = record {
+  good = b.good;
+  byte = b.byte;
+  more = b.more ++ more;
+  parts = ap (λ l. l ++ more) b.parts ∙ append_assoc b.good (b.byte ∷ b.more) more;
+  partial = b.partial;
+  none = b.none;
+  at = b.at;
+}
+
+pub still_bad : (feed new : Feeding) (more : List ℕ) → new ≡ record feed { kept = feed.kept ++ more } → (at : ℕ) → IsBadAt feed at → IsBadAt new at
+still_bad feed new more e at b =
+    subst (λ (f : Feeding). IsBadAt f at) (sym e) (record { within = b.within; bad = bad_stays feed.side feed.kept more b.within b.bad; place = b.place })
+
+pub pushed_bad : {E : Type 0} (feed new : Feeding) (piece : List ℕ) (result : Result (Unit {0}) E) → OnOk result (new ≡ record feed { kept = feed.kept ++ piece }) → OnErr result (new ≡ feed) → (at : ℕ) → IsBadAt feed at → IsBadAt new at
+pushed_bad feed new piece (Ok done) ok err at b = still_bad feed new piece ok at b
+pushed_bad feed new piece (Err refused) ok err at b = subst (λ (f : Feeding). IsBadAt f at) (sym err) b

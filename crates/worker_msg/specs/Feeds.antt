@@ -6,6 +6,8 @@ use Rattle.worker_msg.specs.declared.msg.Msg.{Msg}
 use Rattle.worker_msg.specs.declared.msg.Msg.TheVariants.{Hello, Load, Do, Reply, Quit}
 use Rattle.worker_msg.specs.declared.side.Side.{Side}
 use Rattle.worker_msg.specs.declared.side.Side.TheVariants.{Worker, Crew}
+use Rattle.worker_msg.specs.declared.store.Store.{Store}
+use Rattle.worker_msg.specs.declared.store.Store.TheVariants as stores
 use Rattle.worker_msg.specs.declared.error.TakeFrame.{TakeFrame}
 use Rattle.worker_msg.specs.declared.error.TakeFrame.TheVariants.{BadFrame, Memory}
 
@@ -19,9 +21,14 @@ pub record Feeding : Type 0 where
 abbrev pub given_to : Feeding → ℕ
 given_to feed = feed.place + length feed.kept
 
-abbrev pub kept_of : Side → List ℕ → List ℕ → List ℕ
-kept_of Worker pieces reply = pieces
-kept_of Crew pieces reply = reply
+-- who reads what is stored, and the bytes
+abbrev pub side_of : Store → Side
+side_of (stores.Worker pieces) = Worker
+side_of (stores.Crew reply) = Crew
+
+abbrev pub kept_of : Store → List ℕ
+kept_of (stores.Worker pieces) = pieces
+kept_of (stores.Crew reply) = reply
 
 -- the bytes are the spelling of a message that this side takes
 pub record Spells (side : Side) (bytes : List ℕ) (message : Msg) : Type 0 where

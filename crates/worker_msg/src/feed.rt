@@ -5,6 +5,7 @@ use crate::pieces::Pieces;
 use crate::reading::message_of;
 use crate::reply_bytes::ReplyBytes;
 use crate::side::Side;
+use crate::store::Store;
 use foz_words::NoMemory;
 use std::alloc::Global;
 use std::marker::Model;
@@ -13,23 +14,19 @@ use std::marker::Model;
 /// messages were taken from, and the bytes that it keeps.
 #[derive(Debug, Drop)]
 pub struct Feed {
-    side: Side,
     place: u64,
-    /// What a worker's feed keeps.
-    pieces: Pieces,
-    /// What a crew's feed keeps.
-    reply: ReplyBytes,
+    store: Store,
 }
 
 impl Model for Feed {
     ghost use Rattle.std.specs.Prelude.{◌+◌, ◌<◌, ◌^◌, length};
-    ghost use Rattle.worker_msg.specs.Feeds.{Feeding, kept_of};
+    ghost use Rattle.worker_msg.specs.Feeds.{Feeding, side_of, kept_of};
 
     ghost Value = { Feeding };
 
-    ghost view = { λ feed. record { side = feed.side; place = feed.place; kept = kept_of feed.side feed.pieces feed.reply } };
+    ghost view = { λ feed. record { side = side_of feed.store; place = feed.place; kept = kept_of feed.store } };
 
-    ghost invariant = { λ feed. feed.place + length (kept_of feed.side feed.pieces feed.reply) < 2 ^ 63 };
+    ghost invariant = { λ feed. feed.place + length (kept_of feed.store) < 2 ^ 63 };
 }
 
 impl Feed {
@@ -42,17 +39,31 @@ impl Feed {
     pub fn new(alloc: Global, side: Side) -> Feed
         ensures { result ≡ record { side = side; place = 0; kept = [] } }
     {
-        Feed {
-            side,
-            place: 0,
-            pieces: Pieces::new(alloc),
-            reply: ReplyBytes::new(),
+        match side {
+            Side::Worker => Feed {
+                place: 0,
+                store: Store::Worker(Pieces::new(alloc)),
+            },
+            Side::Crew => Feed {
+                place: 0,
+                store: Store::Crew(ReplyBytes::new()),
+            },
+        }
+    }
+
+    fn side(&self) -> Side
+        ensures { result ≡ self.now.side }
+    {
+        match &self.store {
+            Store::Worker(_) => Side::Worker,
+            Store::Crew(_) => Side::Crew,
         }
     }
 
     /// How many bytes are kept: those of the unfinished frame where `take` has no message.
     pub fn left(&self) -> usize
-        ensures { result ≡ length self.now.kept }
+        ensures count { result ≡ length self.now.kept }
+        ensures few { self.now.side ≡ Crew → result ≤ 21 }
     {
         self.kept().len()
     }
@@ -60,10 +71,11 @@ impl Feed {
     fn kept(&self) -> &[u8]
         ensures kept { result.now ≡ self.now.kept }
         ensures places { self.now.place + length self.now.kept < 2 ^ 63 }
+        ensures few { self.now.side ≡ Crew → length self.now.kept ≤ 21 }
     {
-        match self.side {
-            Side::Worker => self.pieces.as_slice(),
-            Side::Crew => self.reply.as_slice(),
+        match &self.store {
+            Store::Worker(pieces) => pieces.as_slice(),
+            Store::Crew(reply) => reply.as_slice(),
         }
     }
 
@@ -73,8 +85,13 @@ impl Feed {
         requires places { given_to self.old + length piece.now < 2 ^ 63 }
         ensures ok { OnOk result (self.new ≡ record self.old { kept = self.old.kept ++ piece.now }) }
         ensures err { OnErr result (self.new ≡ self.old) }
+        // A bad frame stays one.
+        ensures bad { (at : ℕ) → IsBadAt self.old at → IsBadAt self.new at }
     {
-        self.pieces.push(piece)
+        match &mut self.store {
+            Store::Worker(pieces) => pieces.push(piece),
+            Store::Crew(_) => unreachable!(),
+        }
     }
 
     /// Adds as much of a piece of the stream as a crew's feed has room for, 21 bytes in all, and answers how many bytes those are.
@@ -83,8 +100,13 @@ impl Feed {
         requires places { given_to self.old + length piece.now < 2 ^ 63 }
         ensures count { result ≡ min (21 - length self.old.kept) (length piece.now) }
         ensures kept { self.new ≡ record self.old { kept = self.old.kept ++ take result piece.now } }
+        // A bad frame stays one.
+        ensures bad { (at : ℕ) → IsBadAt self.old at → IsBadAt self.new at }
     {
-        self.reply.push(piece)
+        match &mut self.store {
+            Store::Crew(reply) => reply.push(piece),
+            Store::Worker(_) => unreachable!(),
+        }
     }
 
     /// The message whose frame stands at the front of the bytes that are kept, if all of it does. After `BadFrame` the feed
@@ -94,8 +116,9 @@ impl Feed {
         ensures answer { Answers self.old result self.new }
         ensures none { (result ≡ Ok None) ↔ IsPartial self.old.side self.old.kept }
         ensures bad { (at : ℕ) → (result ≡ Err (BadFrame at)) ↔ IsBadAt self.old at }
-        // A crew's feed takes no memory.
+        // A crew's feed takes no memory, and without a message it lacks a byte of a Reply at least.
         ensures crew { self.old.side ≡ Crew → result ≢ Err Memory }
+        ensures few { self.old.side ≡ Crew → result ≡ Ok None → length self.old.kept < 21 }
         ensures side { self.new.side ≡ self.old.side }
         ensures given { given_to self.new ≡ given_to self.old }
     {
@@ -105,14 +128,15 @@ impl Feed {
     fn take_front(&mut self, alloc: Global) -> Result<Option<Msg>, TakeFrame>
         ensures { Answers self.old result self.new }
     {
+        let side = self.side();
         let kept = self.kept();
-        match look(self.side, kept) {
+        match look(side, kept) {
             Front::Partial => Ok(None),
             Front::Bad { place } => Err(TakeFrame::BadFrame {
                 at: self.place + place as u64,
             }),
             Front::Whole { len } => {
-                let message = message_of(alloc, self.side, &kept[..len])?;
+                let message = message_of(alloc, side, &kept[..len])?;
                 self.pass(len);
                 Ok(Some(message))
             }
@@ -124,9 +148,9 @@ impl Feed {
         requires { count ≤ length self.old.kept }
         ensures { self.new ≡ record { side = self.old.side; place = self.old.place + count; kept = drop count self.old.kept } }
     {
-        match self.side {
-            Side::Worker => self.pieces.pass(count),
-            Side::Crew => self.reply.pass(count),
+        match &mut self.store {
+            Store::Worker(pieces) => pieces.pass(count),
+            Store::Crew(reply) => reply.pass(count),
         }
         self.place += count as u64;
     }

@@ -2,18 +2,31 @@
 ghost use Rattle.std.specs.Prelude.{◌≡◌, ◌≤◌, ◌+◌, ◌++◌, ◌∷◌, [], if◌then◌else◌};
 ghost use Rattle.foz_words.specs.Bytes.{le32};
 ghost use Rattle.worker_msg.specs.Frames.{framed, key_bytes, limit, spelling, work_head};
-ghost use Rattle.worker_msg.specs.declared.msg.Msg.TheVariants.{Reply};
+ghost use Rattle.worker_msg.specs.declared.msg.Msg.TheVariants.{Hello, Reply, Quit};
 
 use foz_words::{Key, le32_bytes, le64_bytes};
 
-/// A Hello, all of it.
+/// The bytes of a Hello.
 pub(crate) const HELLO: [u8; 9] = [5, 0, 0, 0, 1, 0x46, 0x4F, 0x5A, 1];
 
 /// How a Reply begins; its code and key follow.
 pub(crate) const REPLY_HEAD: [u8; 5] = [17, 0, 0, 0, 4];
 
-/// A Quit, all of it.
-pub(crate) const QUIT: [u8; 5] = [1, 0, 0, 0, 5];
+/// The frame of a Hello. It takes no memory.
+#[tactic(auto, unfolding(foz_words::specs::Bytes::le32, crate::specs::Frames::spelling, crate::specs::Frames::framed))]
+pub fn hello_frame() -> [u8; 9]
+    ensures { result ≡ spelling Hello }
+{
+    HELLO
+}
+
+/// The frame of a Quit. It takes no memory.
+#[tactic(auto, unfolding(foz_words::specs::Bytes::le32, crate::specs::Frames::spelling, crate::specs::Frames::framed))]
+pub fn quit_frame() -> [u8; 5]
+    ensures { result ≡ spelling Quit }
+{
+    [1, 0, 0, 0, 5]
+}
 
 /// What stands before the payload of a Load or a Do.
 #[tactic(auto, unfolding(foz_words::specs::Bytes::le32, foz_words::specs::Bytes::le64, crate::specs::Frames::work_head))]
@@ -31,9 +44,9 @@ pub(crate) fn work_bytes(load: bool, key: &Key, payload_len: u32) -> [u8; 17]
     ]
 }
 
-/// A Reply, all of it.
+/// The frame of a Reply. It takes no memory.
 #[tactic(auto, unfolding(foz_words::specs::Bytes::le32, foz_words::specs::Bytes::le64, crate::specs::Frames::spelling, crate::specs::Frames::framed))]
-pub(crate) fn reply_bytes(key: &Key, code: u32) -> [u8; 21]
+pub fn reply_frame(key: &Key, code: u32) -> [u8; 21]
     ensures { result ≡ spelling (Reply key.now code) }
 {
     let code = le32_bytes(code);

@@ -1,11 +1,12 @@
 // Laws of frames and feeds, for proofs above.
-ghost use Rattle.std.specs.Prelude.{◌≡◌, ◌++◌, ℕ, List, length};
+ghost use Rattle.std.specs.Prelude.{◌≡◌, ◌<◌, ◌++◌, ℕ, List, length};
 ghost use Rattle.worker_msg.specs.Frames.{Sent, spelling};
 ghost use Rattle.worker_msg.specs.Fronts.{IsPartial, IsBad};
 ghost use Rattle.worker_msg.specs.Feeds.{Feeding};
 ghost use Rattle.worker_msg.specs.Streams.{Fed, HasNone, Splits, row_of};
 ghost use Rattle.worker_msg.specs.declared.msg.Msg.{Msg};
 ghost use Rattle.worker_msg.specs.declared.side.Side.{Side};
+ghost use Rattle.worker_msg.specs.declared.side.Side.TheVariants.{Crew};
 
 /// However a stream was cut into pieces, and whenever messages were taken: those messages, spelled in a row, and the bytes
 /// that are kept are the bytes that were given.
@@ -29,4 +30,14 @@ pub fn one_front()
     ensures bad { (side : Side) (message : Msg) (x : List ℕ) (place : ℕ) → Sent side message → IsBad side (spelling message ++ x) place → ⊥ }
     ensures either { (side : Side) (bytes : List ℕ) (place : ℕ) → IsPartial side bytes → IsBad side bytes place → ⊥ }
     ensures place { (side : Side) (bytes : List ℕ) (place other : ℕ) → IsBad side bytes place → IsBad side bytes other → place ≡ other }
+{}
+
+/// Whatever comes after a bad frame, it stays one, at the same place.
+pub fn bad_stays_bad()
+    ensures { (side : Side) (bytes more : List ℕ) (place : ℕ) → IsBad side bytes place → IsBad side (bytes ++ more) place }
+{}
+
+/// The beginning of a frame that a crew takes is shorter than a Reply: so what a crew's feed lacks of one fits its room.
+pub fn crew_frames_are_short()
+    ensures { (bytes : List ℕ) → IsPartial Crew bytes → length bytes < 21 }
 {}

@@ -12,11 +12,13 @@ mod pieces;
 mod reading;
 mod reply_bytes;
 mod side;
+mod store;
 mod writing;
 
 pub use error::TakeFrame;
 pub use feed::Feed;
-pub use laws::{any_pieces, one_front, one_split};
+pub use heads::{hello_frame, quit_frame, reply_frame};
+pub use laws::{any_pieces, bad_stays_bad, crew_frames_are_short, one_front, one_split};
 pub use msg::Msg;
 pub use side::Side;
 pub use writing::{lay_msg, write_msg};

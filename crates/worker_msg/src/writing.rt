@@ -1,23 +1,22 @@
 ghost use Rattle.std.specs.Prelude.{◌≡◌, ◌≤◌, ◌+◌, ◌++◌, length, take, drop, OnOk, OnErr};
 ghost use Rattle.worker_msg.specs.Frames.{limit, spelling, work_spelling, HasFittingPayload};
 
-use crate::heads::{HELLO, QUIT, reply_bytes, work_bytes};
+use crate::heads::{hello_frame, quit_frame, reply_frame, work_bytes};
 use crate::msg::Msg;
 use foz_words::{Key, NoMemory};
 
 /// Writes the one spelling of the message at the end. An `Err` changes nothing.
-#[tactic(auto, unfolding(foz_words::specs::Bytes::le32, crate::specs::Frames::spelling, crate::specs::Frames::framed))]
 pub fn write_msg(out: &mut Vec<u8>, msg: &Msg) -> Result<(), NoMemory>
     requires { HasFittingPayload msg.now }
     ensures ok { OnOk result (out.new.items ≡ out.old.items ++ spelling msg.now) }
     ensures err { OnErr result (out.new.items ≡ out.old.items) }
 {
     match msg {
-        Msg::Hello => push_all(out, &HELLO),
+        Msg::Hello => push_all(out, &hello_frame()),
         Msg::Load { key, payload } => push_work(out, true, key, payload.as_slice()),
         Msg::Do { key, payload } => push_work(out, false, key, payload.as_slice()),
-        Msg::Reply { key, code } => push_all(out, &reply_bytes(key, *code)),
-        Msg::Quit => push_all(out, &QUIT),
+        Msg::Reply { key, code } => push_all(out, &reply_frame(key, *code)),
+        Msg::Quit => push_all(out, &quit_frame()),
     }
 }
 

@@ -1,20 +1,20 @@
 -- One message more, one piece more, and the end.
-use Rattle.std.proofs.Common.{ℕ, Bool, false, ◌≡◌, ◌≢◌, ◌+◌, ◌≤◌, ◌⊎◌, inl, inr, List, [], ◌∷◌, ◌++◌, length, take, drop, refl, sym, ap, ◌∙◌, subst, append_assoc, append-nil, arith}
-use Rattle.std.specs.List.{AllByRecursion, flat_map}
+use Rattle.std.proofs.Common.{ℕ, false, ◌≡◌, ◌≢◌, ◌≤◌, inl, inr, List, [], ◌∷◌, ◌++◌, length, take, drop, refl, sym, ap, ◌∙◌, subst, append_assoc, append-nil, arith}
+use Rattle.std.specs.List.{AllByRecursion}
 use Rattle.std.proofs.lemmas.List.{length-append, take-append-drop}
 use Rattle.foz_words.specs.declared.key.Key.{Key}
 use Rattle.state_words.specs.declared.state.State.{State}
-use Rattle.worker_msg.specs.Frames.{framed, spelling, body_of, Sent, IsBody, quit}
-use Rattle.worker_msg.specs.Fronts.{Begins, IsPartial, IsBad}
-use Rattle.worker_msg.specs.Feeds.{Feeding, TakesMessage, IsBadAt}
-use Rattle.worker_msg.specs.Streams.{row_of, Splits}
+use Rattle.worker_msg.specs.Frames.{framed, spelling, body_of, Sent, quit}
+use Rattle.worker_msg.specs.Fronts.{IsPartial}
+use Rattle.worker_msg.specs.Feeds.{Feeding, TakesMessage}
+use Rattle.worker_msg.specs.Streams.{row_of}
 use Rattle.worker_msg.specs.declared.msg.Msg.{Msg}
 use Rattle.worker_msg.specs.declared.msg.Msg.TheVariants.{Hello, Load, Do, Reply, Quit}
 use Rattle.worker_msg.specs.declared.side.Side.{Side}
 use Rattle.worker_msg.specs.declared.side.Side.TheVariants.{Worker}
 use Rattle.worker_msg.proofs.Parts.{length-framed}
-use Rattle.worker_node.specs.Sessions.{Standing, Works, WorksAll, starts, goes_on}
-use Rattle.worker_node.specs.Ends.{IsCut, Stops, BeginsQuit, IsSession, IsWholeSession, IsCutShort}
+use Rattle.worker_node.specs.Sessions.{Standing, WorksAll, starts, goes_on}
+use Rattle.worker_node.specs.Ends.{IsCut, Stops, IsWholeSession, IsCutShort}
 use Rattle.worker_node.specs.Steps.{IsWork, IsWorked, IsWorkedShort, IsCutting, IsWorking}
 
 -- ---- rows of messages

@@ -1,5 +1,5 @@
 -- The session over all pieces that a source gives.
-use Rattle.std.proofs.Common.{ℕ, false, ◌≡◌, ◌+◌, ◌≤◌, inl, inr, List, [], ◌++◌, length, take, refl, sym, ap, ◌∙◌, subst, append_assoc, arith}
+use Rattle.std.proofs.Common.{ℕ, false, ◌≡◌, ◌+◌, inl, inr, List, [], ◌++◌, length, take, Option, refl, sym, ap, ◌∙◌, subst, append_assoc, arith}
 use Rattle.std.proofs.lemmas.List.{length-append}
 use Rattle.foz_words.specs.declared.key.Key.{Key}
 use Rattle.state_words.specs.declared.state.State.{State}
@@ -10,7 +10,10 @@ use Rattle.worker_msg.specs.declared.msg.Msg.TheVariants.{Hello}
 use Rattle.worker_msg.specs.declared.side.Side.TheVariants.{Worker}
 use Rattle.worker_node.specs.Sessions.{Standing}
 use Rattle.worker_node.specs.Ends.{IsEnd, IsToEnd}
-use Rattle.worker_node.specs.Steps.{IsStopped, IsCutting, IsWorking, IsServedBehind, EndsWork}
+use Rattle.worker_node.specs.Steps.{IsCutting, IsWorking, IsServedBehind, Reaches, IsWorkedOff, stopped_as}
+use Rattle.worker_node.specs.declared.ends.End.{End}
+use Rattle.worker_node.specs.declared.ends.Stopped.{Stopped}
+use Rattle.worker_node.specs.declared.ends.Stopped.TheVariants as stops
 use Rattle.worker_node.specs.declared.served.Served.{Served}
 use Rattle.worker_node.specs.declared.served.Served.TheVariants as served
 use Rattle.worker_node.proofs.Runs.{working_first, working_given, whole_end, short_end}
@@ -28,33 +31,27 @@ more_given old new piece e =
 pub input_ended : (feed : Feeding) (taken left : List ℕ) (size : ℕ) → IsCutting taken feed → IsPartial Worker feed.kept → size ≡ length feed.kept → left ≡ [] → IsEnd taken left (served.InputEnded size)
 input_ended feed taken left size c p s l = record { messages = c.messages; rest = feed.kept; cut = c.cut; comes = (p, s, l) }
 
-pub to_end : (taken left : List ℕ) (end : Served) → EndsWork taken end → IsToEnd end → IsEnd taken left end
-to_end taken left served.Quit e h = e left
-to_end taken left (served.BadFrame at) e h = e left
-to_end taken left (served.InputEnded size) e h = absurd e
-to_end taken left served.ReadFault e h = absurd h
-to_end taken left served.WriteFault e h = absurd h
-to_end taken left served.Memory e h = absurd h
+-- ---- which end it is
 
-pub no_read : (taken : List ℕ) (end : Served) → EndsWork taken end → end ≡ served.ReadFault → ⊥
-no_read taken end e is = subst (λ (x : Served). EndsWork taken x) is e
+pub reached_as : (taken : List ℕ) (feed : Feeding) (result reached : Option End) → result ≡ reached → Reaches taken feed result → Reaches taken feed reached
+reached_as taken feed result reached e r = subst (λ (o : Option End). Reaches taken feed o) e r
 
-pub stopped_early : (end : Served) → IsStopped end → IsToEnd end → ⊥
-stopped_early served.Quit s h = s
-stopped_early (served.BadFrame at) s h = s
-stopped_early (served.InputEnded size) s h = s
-stopped_early served.ReadFault s h = s
-stopped_early served.WriteFault s h = h
-stopped_early served.Memory s h = h
-
-pub stopped_no_read : (end : Served) → IsStopped end → end ≡ served.ReadFault → ⊥
-stopped_no_read end s is = subst IsStopped is s
+pub stopped_early : (stopped : Stopped) → IsToEnd (stopped_as stopped) → ⊥
+stopped_early stops.WriteFault h = h
+stopped_early stops.Memory h = h
 
 -- where nothing came
 pub none_came : (n : ℕ) (bytes left now : List ℕ) → n ≡ 0 → left ≡ take n bytes ++ now → left ≡ now
 none_came n bytes left now none read = read ∙ ap (λ (k : ℕ). take k bytes ++ now) none
 
 module _ {M : Type 0} (creates : M → Key → State → ℕ → M → Type 0) (before : M) (start : List ℕ) where
+  pub worked_as : (taken : List ℕ) (feed : Feeding) (output : List ℕ) (standing : Standing M) (result reached : Option End) → result ≡ reached → IsWorkedOff creates before start taken feed output standing result
+      → IsWorkedOff creates before start taken feed output standing reached
+  worked_as taken feed output standing result reached e w = subst (λ (o : Option End). IsWorkedOff creates before start taken feed output standing o) e w
+
+  pub served_as : (taken written : List ℕ) (after : M) (end told : Served) → end ≡ told → IsServedBehind creates before start taken written after end → IsServedBehind creates before start taken written after told
+  served_as taken written after end told e s = subst (λ (o : Served). IsServedBehind creates before start taken written after o) e s
+
   -- nothing was taken
   pub nothing_taken : (written : List ℕ) → written ≡ start ++ spelling Hello → IsServedBehind creates before start [] written before served.Memory
   nothing_taken written w =

@@ -28,21 +28,21 @@ pub record Standing (M : Type 0) : Type 0 where
   pub meaning : M
 
 -- the payload is a state, and the driver is called for it
-pub record Creates {M : Type 0} (creates : M → Key → State → ℕ → M → Type 0) (before : M) (key : Key) (payload : List ℕ) (code : ℕ) (after : M) : Type 0 where
+pub record CallsDriver {M : Type 0} (creates : M → Key → State → ℕ → M → Type 0) (before : M) (key : Key) (payload : List ℕ) (code : ℕ) (after : M) : Type 0 where
   pub state : State
   pub means : Means key payload (Ok state)
   pub called : creates before key state code after
 
 -- what comes of a payload: a code, or none where it is no state
 abbrev pub IsCreated : {M : Type 0} (creates : M → Key → State → ℕ → M → Type 0) (before : M) (key : Key) (payload : List ℕ) (answer : Option ℕ) (after : M) → Type 0
-IsCreated creates before key payload (Some code) after = Creates creates before key payload code after
+IsCreated creates before key payload (Some code) after = CallsDriver creates before key payload code after
 IsCreated creates before key payload None after = IsUnreadable key payload × (after ≡ before)
 
 -- one message, what it is answered, and where the worker stands then
 pub data Works {M : Type 0} (creates : M → Key → State → ℕ → M → Type 0) : Standing M → Msg → List Msg → Standing M → Type 0 where
-  loads : (marked : Bool) (key : Key) (payload : List ℕ) (before after : M) → Creates creates before key payload 0 after
+  loads : (marked : Bool) (key : Key) (payload : List ℕ) (before after : M) → CallsDriver creates before key payload 0 after
       → Works creates (record { marked = marked; meaning = before }) (Load key payload) [] (record { marked = marked; meaning = after })
-  refused_load : (marked : Bool) (key : Key) (payload : List ℕ) (code : ℕ) (before after : M) → code ≢ 0 → Creates creates before key payload code after
+  refused_load : (marked : Bool) (key : Key) (payload : List ℕ) (code : ℕ) (before after : M) → code ≢ 0 → CallsDriver creates before key payload code after
       → Works creates (record { marked = marked; meaning = before }) (Load key payload) [] (record { marked = true; meaning = after })
   unreadable_load : (marked : Bool) (key : Key) (payload : List ℕ) (before : M) → IsUnreadable key payload
       → Works creates (record { marked = marked; meaning = before }) (Load key payload) [] (record { marked = true; meaning = before })
@@ -50,7 +50,7 @@ pub data Works {M : Type 0} (creates : M → Key → State → ℕ → M → Typ
       → Works creates (record { marked = true; meaning = before }) (Do key payload) (Reply key after_failed_load ∷ []) (record { marked = false; meaning = before })
   unreadable_do : (key : Key) (payload : List ℕ) (before : M) → IsUnreadable key payload
       → Works creates (record { marked = false; meaning = before }) (Do key payload) (Reply key not_read ∷ []) (record { marked = false; meaning = before })
-  does : (key : Key) (payload : List ℕ) (code : ℕ) (before after : M) → Creates creates before key payload code after
+  does : (key : Key) (payload : List ℕ) (code : ℕ) (before after : M) → CallsDriver creates before key payload code after
       → Works creates (record { marked = false; meaning = before }) (Do key payload) (Reply key code ∷ []) (record { marked = false; meaning = after })
 
 -- the messages one after the other, from a worker without a mark

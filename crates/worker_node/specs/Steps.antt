@@ -1,5 +1,5 @@
 -- What the steps of a worker do.
-use Rattle.std.specs.Prelude.{ℕ, ◌≡◌, ◌⊎◌, List, ◌++◌, length, take, Option, Some, None, ⊤}
+use Rattle.std.specs.Prelude.{ℕ, ◌≡◌, ◌⊎◌, List, ◌++◌, length, Option, Some, None, ⊤}
 use Rattle.foz_words.specs.declared.key.Key.{Key}
 use Rattle.state_words.specs.declared.state.State.{State}
 use Rattle.worker_msg.specs.declared.msg.Msg.{Msg}
@@ -11,6 +11,12 @@ use Rattle.worker_node.specs.Sessions.{Standing, Works, WorksAll}
 use Rattle.worker_msg.specs.Frames.{spelling}
 use Rattle.worker_msg.specs.declared.side.Side.TheVariants.{Worker}
 use Rattle.worker_node.specs.Ends.{BeginsQuit, IsCut, IsEnd, IsServed}
+use Rattle.worker_node.specs.declared.ends.End.{End}
+use Rattle.worker_node.specs.declared.ends.End.TheVariants as ends
+use Rattle.worker_node.specs.declared.ends.Stopped.{Stopped}
+use Rattle.worker_node.specs.declared.ends.Stopped.TheVariants as stops
+use Rattle.worker_node.specs.declared.working.Next.{Next}
+use Rattle.worker_node.specs.declared.working.Next.TheVariants as nexts
 use Rattle.worker_node.specs.declared.served.Served.{Served}
 use Rattle.worker_node.specs.declared.served.Served.TheVariants as served
 
@@ -21,19 +27,25 @@ IsWork (Do key payload) = ⊤
 IsWork (Reply key code) = ⊥
 IsWork Quit = ⊥
 
--- the next message, or none where no whole frame stands there
-abbrev pub IsNext : Feeding → Option Msg → Feeding → Type 0
-IsNext old None new = IsPartial old.side old.kept × (new ≡ old)
-IsNext old (Some message) new = TakesMessage old message new × IsWork message
+-- what ends the session stands first among what is kept
+abbrev pub EndsAt : Feeding → End → Type 0
+EndsAt feed ends.Quit = BeginsQuit feed.kept
+EndsAt feed (ends.BadFrame at) = IsBadAt feed at
 
--- why there is no next message
-abbrev pub HasNoNext : Feeding → Served → Type 0
-HasNoNext old served.Quit = BeginsQuit old.kept
-HasNoNext old (served.BadFrame at) = IsBadAt old at
-HasNoNext old served.Memory = ⊤
-HasNoNext old (served.InputEnded left) = ⊥
-HasNoNext old served.ReadFault = ⊥
-HasNoNext old served.WriteFault = ⊥
+-- what stands next: a Load or a Do, no whole frame, or what ends the session
+abbrev pub IsNext : Feeding → Next → Feeding → Type 0
+IsNext old (nexts.Message message) new = TakesMessage old message new × IsWork message
+IsNext old nexts.Partial new = IsPartial old.side old.kept × (new ≡ old)
+IsNext old (nexts.Ends end) new = EndsAt old end
+
+-- the end of serving that it comes to
+abbrev pub ended : End → Served
+ended ends.Quit = served.Quit
+ended (ends.BadFrame at) = served.BadFrame at
+
+abbrev pub stopped_as : Stopped → Served
+stopped_as stops.WriteFault = served.WriteFault
+stopped_as stops.Memory = served.Memory
 
 -- a message was worked off, and its replies were written
 pub record IsWorked {M : Type 0} (creates : M → Key → State → ℕ → M → Type 0) (old : List ℕ) (before : Standing M) (message : Msg) (after : Standing M) (new : List ℕ) : Type 0 where
@@ -61,20 +73,6 @@ pub record IsUntouched {M : Type 0} (old : List ℕ) (before after : M) (new : L
 abbrev pub IsUnworked : {M : Type 0} (creates : M → Key → State → ℕ → M → Type 0) (old : List ℕ) (before : Standing M) (message : Msg) (after : M) (new : List ℕ) → Type 0
 IsUnworked creates old before message after new = IsUntouched old before.meaning after new ⊎ IsWorkedShort creates old before message after new
 
--- a call of the sink failed, or memory ran out
-abbrev pub IsStopped : Served → Type 0
-IsStopped served.WriteFault = ⊤
-IsStopped served.Memory = ⊤
-IsStopped served.Quit = ⊥
-IsStopped (served.BadFrame at) = ⊥
-IsStopped (served.InputEnded left) = ⊥
-IsStopped served.ReadFault = ⊥
-
--- no more than a front was written
-pub record IsUnsent (old bytes new : List ℕ) : Type 0 where
-  pub count : ℕ
-  pub written : new ≡ old ++ take count bytes
-
 -- ---- all messages that were taken so far
 
 -- the messages of what was taken from the source, up to what the feed keeps
@@ -99,11 +97,12 @@ pub record IsServedBehind {M : Type 0} (creates : M → Key → State → ℕ �
   pub is : written ≡ start ++ out
   pub served : IsServed creates before taken out after end
 
--- an end that the messages came to, whatever is left in the source, or another one
-abbrev pub EndsWork : List ℕ → Served → Type 0
-EndsWork taken served.Quit = (left : List ℕ) → IsEnd taken left served.Quit
-EndsWork taken (served.BadFrame at) = (left : List ℕ) → IsEnd taken left (served.BadFrame at)
-EndsWork taken served.Memory = ⊤
-EndsWork taken served.WriteFault = ⊤
-EndsWork taken (served.InputEnded left) = ⊥
-EndsWork taken served.ReadFault = ⊥
+-- the messages came to an unfinished frame, or to an end, whatever is left in the source
+abbrev pub Reaches : List ℕ → Feeding → Option End → Type 0
+Reaches taken feed None = IsCutting taken feed × IsPartial Worker feed.kept
+Reaches taken feed (Some end) = (left : List ℕ) → IsEnd taken left (ended end)
+
+-- they are worked off up to there
+abbrev pub IsWorkedOff : {M : Type 0} (creates : M → Key → State → ℕ → M → Type 0) (before : M) (start taken : List ℕ) (feed : Feeding) (output : List ℕ) (standing : Standing M) → Option End → Type 0
+IsWorkedOff creates before start taken feed output standing None = IsWorking creates before start taken feed output standing
+IsWorkedOff creates before start taken feed output standing (Some end) = IsServedBehind creates before start taken output standing.meaning (ended end)

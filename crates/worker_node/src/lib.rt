@@ -2,7 +2,7 @@
 #![tactic(auto)]
 
 mod creating;
-mod sending;
+mod ends;
 mod served;
 mod serving;
 mod working;

@@ -1,8 +1,3 @@
-ghost use Rattle.std.specs.Prelude.{◌≡◌};
-ghost use Rattle.worker_node.specs.declared.served.Served.TheVariants.{Memory};
-
-use foz_words::NoMemory;
-
 /// How serving ended.
 #[derive(Clone, Copy, Debug, PartialEq, Eq)]
 pub enum Served {
@@ -18,12 +13,4 @@ pub enum Served {
     BadFrame { at: u64 },
     /// Memory ran out.
     Memory,
-}
-
-impl From<NoMemory> for Served {
-    ghost from_gives = { λ _ end. end ≡ Memory };
-
-    fn from(_refused: NoMemory) -> Served {
-        Served::Memory
-    }
 }

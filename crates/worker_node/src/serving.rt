@@ -6,13 +6,12 @@ ghost use Rattle.worker_node.specs.Ends.{IsEnd, IsToEnd};
 ghost use Rattle.worker_node.specs.Steps.{IsServedBehind};
 ghost use Rattle.worker_node.specs.declared.served.Served.TheVariants.{ReadFault, WriteFault};
 
-use crate::sending::send;
 use crate::served::Served;
 use crate::working::work_off;
-use disk_model::{Failed, Sink, Source};
+use disk_model::{Failed, Sink, Source, write_all};
 use driver_check::Driver;
 use std::alloc::Global;
-use worker_msg::{Feed, Msg, Side};
+use worker_msg::{Feed, Side, hello_frame};
 
 // How many bytes are asked for in one call of the source.
 const PIECE: usize = 65_536;
@@ -27,7 +26,7 @@ pub fn serve<I: Source, O: Sink, R: Driver>(
     driver: &mut R,
 ) -> Served
     // Where the source and the sink tell their bytes: what was taken is a session, and what was written is all that it
-    // writes, or a front of that.
+    // writes, or a prefix of that.
     ensures session { I.tells → O.tells → (taken : List ℕ) × (I.left source.old ≡ taken ++ I.left source.new)
         × IsServedBehind R.creates (R.meaning driver.old) (O.written sink.old) taken (O.written sink.new) (R.meaning driver.new) result }
     // What the frames come to.
@@ -36,9 +35,9 @@ pub fn serve<I: Source, O: Sink, R: Driver>(
     ensures write_fault { result ≡ WriteFault → Rose (O.faults sink.old) (O.faults sink.new) }
     ensures later { (I.faults source.old ≤ I.faults source.new) × (O.faults sink.old ≤ O.faults sink.new) }
 {
-    match send(alloc, sink, &Msg::Hello) {
+    match write_all(sink, &hello_frame()) {
         Ok(()) => serve_pieces(alloc, source, sink, driver),
-        Err(end) => end,
+        Err(Failed) => Served::WriteFault,
     }
 }
 
@@ -73,9 +72,13 @@ fn serve_pieces<I: Source, O: Sink, R: Driver>(
         let Ok(()) = feed.push(&piece[..given]) else {
             return Served::Memory;
         };
-        match work_off(alloc, &mut feed, sink, driver, &mut marked) {
-            Ok(()) => {}
-            Err(end) => return end,
+        let came_to = match work_off(alloc, &mut feed, sink, driver, &mut marked) {
+            Ok(came_to) => came_to,
+            Err(stopped) => return stopped.served(),
+        };
+        match came_to {
+            Some(end) => return end.served(),
+            None => {}
         }
     }
 }

@@ -1,5 +1,7 @@
 //! Each code of the shipped driver, 1 to 41, at states that break one rule, beside states that keep all.
-use super::frames::{DO, HELLO, LOAD, QUIT, put_module, put_reply, put_state, serve_bytes};
+use super::frames::{
+    DO, HELLO, LAYOUT, LOAD, QUIT, comes_to, pieces, put_module, put_reply, put_state,
+};
 use crate::Served;
 use foz_words::{Key, NoMemory};
 use std::alloc::Global;
@@ -8,170 +10,211 @@ use std::test::Fail;
 /// The hash of the state that is judged.
 const HASH: u64 = 9;
 
-/// Whether the worker, once it was given some frames, answers each of these objects of a kind with its code.
-fn answers(
-    alloc: Global,
-    given: &[u8],
-    tag: u32,
-    member: &str,
-    table: &[(u32, &str)],
-) -> Result<bool, Fail> {
-    let key = Key { tag, hash: HASH };
-    let mut input = Vec::from_slice(alloc, given)?;
-    let mut wanted = Vec::from_slice(alloc, HELLO)?;
-    for (code, object) in table {
-        put_state(alloc, &mut input, DO, key, member, *object)?;
-        put_reply(&mut wanted, key, *code)?;
-    }
-    input.extend_from_slice(QUIT)?;
-    let session = serve_bytes(alloc, &input, 1000)?;
-    Ok(session.end == Served::Quit && session.written == wanted)
-}
+/// A pass with one colour attachment.
+const PASS: &str =
+    "{\"attachments\":[{\"samples\":1}],\"subpasses\":[{\"colorAttachments\":[{}]}]}";
 
-#[test]
-fn samplers(rt: HostRuntime) -> Result<(), Fail> {
-    let table = [
-        (0, "{}"),
-        (1, "{\"magFilter\":2,\"mipmapMode\":2}"),
-        (1, "{\"minFilter\":2}"),
-        (2, "{\"mipmapMode\":2}"),
-        (3, "{\"addressModeW\":5}"),
-        (4, "{\"compareOp\":8}"),
-        (5, "{\"borderColor\":6}"),
-        (6, "{\"compareEnable\":2}"),
-    ];
-    assert!(rt; answers(rt.alloc(), &[], 1, "samplers", &table)?);
-    Ok(())
-}
+/// States of all kinds but modules and graphics pipelines: the code, the tag of the kind and the object.
+const STATES: &[(u32, u32, &str)] = &[
+    // Samplers.
+    (0, 1, "{}"),
+    (1, 1, "{\"magFilter\":2,\"mipmapMode\":2}"),
+    (1, 1, "{\"minFilter\":2}"),
+    (2, 1, "{\"mipmapMode\":2}"),
+    (3, 1, "{\"addressModeW\":5}"),
+    (4, 1, "{\"compareOp\":8}"),
+    (5, 1, "{\"borderColor\":6}"),
+    (6, 1, "{\"compareEnable\":2}"),
+    // Set layouts.
+    (
+        0,
+        2,
+        "{\"bindings\":[{\"binding\":1},{\"descriptorType\":10,\"stageFlags\":2147483647}]}",
+    ),
+    (
+        41,
+        2,
+        "{\"bindings\":[{\"descriptorCount\":1,\"immutableSamplers\":[\"0000000000000002\"]}]}",
+    ),
+    (7, 2, "{\"bindings\":[{\"binding\":1},{},{\"binding\":1}]}"),
+    (8, 2, "{\"bindings\":[{\"descriptorType\":11}]}"),
+    (9, 2, "{\"bindings\":[{\"stageFlags\":64}]}"),
+    (
+        10,
+        2,
+        "{\"bindings\":[{\"descriptorCount\":2,\"immutableSamplers\":[\"0000000000000001\"]}]}",
+    ),
+    (
+        11,
+        2,
+        "{\"bindings\":[{\"descriptorCount\":1,\"descriptorType\":2,\"immutableSamplers\":[\"0000000000000001\"]}]}",
+    ),
+    // Pipeline layouts.
+    (
+        0,
+        3,
+        "{\"pushConstantRanges\":[{\"size\":4,\"stageFlags\":1},{\"offset\":4,\"size\":4,\"stageFlags\":62}]}",
+    ),
+    (41, 3, "{\"setLayouts\":[\"0000000000000001\"]}"),
+    (12, 3, "{\"pushConstantRanges\":[{\"stageFlags\":1}]}"),
+    (
+        12,
+        3,
+        "{\"pushConstantRanges\":[{\"offset\":2,\"size\":4,\"stageFlags\":1}]}",
+    ),
+    (
+        13,
+        3,
+        "{\"pushConstantRanges\":[{\"size\":4,\"stageFlags\":1},{\"size\":4,\"stageFlags\":3}]}",
+    ),
+    (
+        14,
+        3,
+        "{\"pushConstantRanges\":[{\"size\":4,\"stageFlags\":64}]}",
+    ),
+    // Render passes.
+    (
+        0,
+        5,
+        "{\"attachments\":[{\"format\":184,\"samples\":64}],\"subpasses\":[{\"colorAttachments\":[{},{\"attachment\":4294967295}]}]}",
+    ),
+    (20, 5, "{\"attachments\":[{\"format\":185,\"samples\":3}]}"),
+    (21, 5, "{\"attachments\":[{\"samples\":3}]}"),
+    (22, 5, "{\"attachments\":[{\"samples\":1,\"storeOp\":2}]}"),
+    (23, 5, "{}"),
+    (24, 5, "{\"subpasses\":[{\"colorAttachments\":[{}]}]}"),
+    (
+        25,
+        5,
+        "{\"attachments\":[{\"samples\":1}],\"subpasses\":[{\"colorAttachments\":[{},{}],\"resolveAttachments\":[{}]}]}",
+    ),
+    (
+        26,
+        5,
+        "{\"dependencies\":[{\"srcSubpass\":1}],\"subpasses\":[{}]}",
+    ),
+    (27, 5, "{\"subpasses\":[{\"pipelineBindPoint\":2}]}"),
+    // Compute pipelines.
+    (
+        0,
+        7,
+        "{\"layout\":\"0000000000000003\",\"stage\":{\"module\":\"0000000000000020\",\"name\":\"main\",\"specializationInfo\":{\"data\":\"AAAAAA==\",\"mapEntries\":[{\"size\":4}]},\"stage\":32}}",
+    ),
+    (
+        41,
+        7,
+        "{\"basePipelineHandle\":\"0000000000000008\",\"layout\":\"0000000000000003\",\"stage\":{\"module\":\"0000000000000020\",\"name\":\"main\",\"stage\":32}}",
+    ),
+    (
+        28,
+        7,
+        "{\"layout\":\"0000000000000003\",\"stage\":{\"module\":\"0000000000000020\",\"name\":\"mian\",\"stage\":16}}",
+    ),
+    (
+        29,
+        7,
+        "{\"layout\":\"0000000000000003\",\"stage\":{\"module\":\"0000000000000020\",\"name\":\"mian\",\"stage\":32}}",
+    ),
+    (
+        29,
+        7,
+        "{\"layout\":\"0000000000000003\",\"stage\":{\"module\":\"0000000000000010\",\"name\":\"main\",\"stage\":32}}",
+    ),
+    (
+        30,
+        7,
+        "{\"layout\":\"0000000000000003\",\"stage\":{\"module\":\"0000000000000020\",\"name\":\"main\",\"specializationInfo\":{\"data\":\"AAAAAA==\",\"mapEntries\":[{\"offset\":1,\"size\":4}]},\"stage\":32}}",
+    ),
+];
 
-#[test]
-fn set_layouts(rt: HostRuntime) -> Result<(), Fail> {
-    let alloc = rt.alloc();
-    let mut given = Vec::new(alloc);
-    put_state(
-        alloc,
-        &mut given,
-        LOAD,
-        Key { tag: 1, hash: 1 },
-        "samplers",
-        "{}",
-    )?;
-    let table = [
-        (
-            0,
-            "{\"bindings\":[{\"binding\":1},{\"descriptorType\":10,\"stageFlags\":2147483647}]}",
-        ),
-        (
-            41,
-            "{\"bindings\":[{\"descriptorCount\":1,\"immutableSamplers\":[\"0000000000000002\"]}]}",
-        ),
-        (7, "{\"bindings\":[{\"binding\":1},{},{\"binding\":1}]}"),
-        (8, "{\"bindings\":[{\"descriptorType\":11}]}"),
-        (9, "{\"bindings\":[{\"stageFlags\":64}]}"),
-        (
-            10,
-            "{\"bindings\":[{\"descriptorCount\":2,\"immutableSamplers\":[\"0000000000000001\"]}]}",
-        ),
-        (
-            11,
-            "{\"bindings\":[{\"descriptorCount\":1,\"descriptorType\":2,\"immutableSamplers\":[\"0000000000000001\"]}]}",
-        ),
-    ];
-    assert!(rt; answers(alloc, &given, 2, "setLayouts", &table)?);
-    Ok(())
-}
+/// Modules: the code, the number of words, and these as varints.
+const MODULES: &[(u32, u32, &[u8])] = &[
+    // Four words; another magic number; a reserved word that isn't 0.
+    (15, 4, b"\x83\x84\x8c\x39\0\0\0"),
+    (15, 5, b"\x01\0\0\0\0"),
+    (15, 5, b"\x83\x84\x8c\x39\0\0\0\x01"),
+    // An instruction of no words.
+    (16, 6, b"\x83\x84\x8c\x39\0\0\0\0\0"),
+    // No memory model.
+    (17, 5, b"\x83\x84\x8c\x39\0\0\0\0"),
+    // The end of a function that never began.
+    (
+        18,
+        9,
+        b"\x83\x84\x8c\x39\0\0\0\0\x8e\x80\x0c\0\x01\xb8\x80\x04",
+    ),
+    // No entry point; one with a name.
+    (19, 8, b"\x83\x84\x8c\x39\0\0\0\0\x8e\x80\x0c\0\x01"),
+    (
+        0,
+        13,
+        b"\x83\x84\x8c\x39\0\0\0\0\x8e\x80\x0c\0\x01\x8f\x80\x14\x05\x01\xed\xc2\xa5\xf3\x06\0",
+    ),
+];
 
-#[test]
-fn pipeline_layouts(rt: HostRuntime) -> Result<(), Fail> {
-    let table = [
-        (
-            0,
-            "{\"pushConstantRanges\":[{\"size\":4,\"stageFlags\":1},{\"offset\":4,\"size\":4,\"stageFlags\":62}]}",
-        ),
-        (41, "{\"setLayouts\":[\"0000000000000001\"]}"),
-        (12, "{\"pushConstantRanges\":[{\"stageFlags\":1}]}"),
-        (
-            12,
-            "{\"pushConstantRanges\":[{\"offset\":2,\"size\":4,\"stageFlags\":1}]}",
-        ),
-        (
-            13,
-            "{\"pushConstantRanges\":[{\"size\":4,\"stageFlags\":1},{\"size\":4,\"stageFlags\":3}]}",
-        ),
-        (
-            14,
-            "{\"pushConstantRanges\":[{\"size\":4,\"stageFlags\":64}]}",
-        ),
-    ];
-    assert!(rt; answers(rt.alloc(), &[], 3, "pipelineLayouts", &table)?);
-    Ok(())
-}
+const VERTEX: &str = "{\"module\":\"0000000000000001\",\"name\":\"main\",\"stage\":1}";
 
-#[test]
-fn shader_modules(rt: HostRuntime) -> Result<(), Fail> {
-    let alloc = rt.alloc();
-    let key = Key { tag: 4, hash: HASH };
-    let table: [(u32, u32, &[u8]); 8] = [
-        // Four words; another magic number; a reserved word that isn't 0.
-        (15, 4, b"\x83\x84\x8c\x39\0\0\0"),
-        (15, 5, b"\x01\0\0\0\0"),
-        (15, 5, b"\x83\x84\x8c\x39\0\0\0\x01"),
-        // An instruction of no words.
-        (16, 6, b"\x83\x84\x8c\x39\0\0\0\0\0"),
-        // No memory model.
-        (17, 5, b"\x83\x84\x8c\x39\0\0\0\0"),
-        // The end of a function that never began.
-        (
-            18,
-            9,
-            b"\x83\x84\x8c\x39\0\0\0\0\x8e\x80\x0c\0\x01\xb8\x80\x04",
-        ),
-        // No entry point; one with a name.
-        (19, 8, b"\x83\x84\x8c\x39\0\0\0\0\x8e\x80\x0c\0\x01"),
-        (
-            0,
-            13,
-            b"\x83\x84\x8c\x39\0\0\0\0\x8e\x80\x0c\0\x01\x8f\x80\x14\x05\x01\xed\xc2\xa5\xf3\x06\0",
-        ),
-    ];
-    let mut input = Vec::new(alloc);
-    let mut wanted = Vec::from_slice(alloc, HELLO)?;
-    for (code, words, varints) in table.iter() {
-        put_module(alloc, &mut input, DO, HASH, *words, *varints)?;
-        put_reply(&mut wanted, key, *code)?;
-    }
-    input.extend_from_slice(QUIT)?;
-    let session = serve_bytes(alloc, &input, 1000)?;
-    assert_eq!(rt; session.end, Served::Quit);
-    assert_eq!(rt; session.written.as_slice(), wanted.as_slice());
-    Ok(())
-}
+const FRAGMENT: &str = "{\"module\":\"0000000000000010\",\"name\":\"main\",\"stage\":16}";
 
-#[test]
-fn render_passes(rt: HostRuntime) -> Result<(), Fail> {
-    let table = [
-        (
-            0,
-            "{\"attachments\":[{\"format\":184,\"samples\":64}],\"subpasses\":[{\"colorAttachments\":[{},{\"attachment\":4294967295}]}]}",
-        ),
-        (20, "{\"attachments\":[{\"format\":185,\"samples\":3}]}"),
-        (21, "{\"attachments\":[{\"samples\":3}]}"),
-        (22, "{\"attachments\":[{\"samples\":1,\"storeOp\":2}]}"),
-        (23, "{}"),
-        (24, "{\"subpasses\":[{\"colorAttachments\":[{}]}]}"),
-        (
-            25,
-            "{\"attachments\":[{\"samples\":1}],\"subpasses\":[{\"colorAttachments\":[{},{}],\"resolveAttachments\":[{}]}]}",
-        ),
-        (
-            26,
-            "{\"dependencies\":[{\"srcSubpass\":1}],\"subpasses\":[{}]}",
-        ),
-        (27, "{\"subpasses\":[{\"pipelineBindPoint\":2}]}"),
-    ];
-    assert!(rt; answers(rt.alloc(), &[], 5, "renderPasses", &table)?);
-    Ok(())
-}
+/// Graphics pipelines: the code, the stages and further members.
+const PIPELINES: &[(u32, &str, &str)] = &[
+    // One stage.
+    (0, VERTEX, ""),
+    (31, "", ""),
+    (31, "{\"module\":\"0000000000000001\",\"stage\":32}", ""),
+    (33, FRAGMENT, ""),
+    (
+        34,
+        "{\"module\":\"0000000000000001\",\"name\":\"mian\",\"stage\":1}",
+        "",
+    ),
+    (
+        34,
+        "{\"module\":\"0000000000000010\",\"name\":\"main\",\"stage\":1}",
+        "",
+    ),
+    (
+        35,
+        "{\"module\":\"0000000000000001\",\"name\":\"main\",\"specializationInfo\":{\"mapEntries\":[{\"size\":1}]},\"stage\":1}",
+        "",
+    ),
+    // Several stages.
+    (
+        0,
+        "{\"module\":\"0000000000000001\",\"name\":\"main\",\"stage\":1},{\"module\":\"0000000000000002\",\"name\":\"main\",\"stage\":2},{\"module\":\"0000000000000004\",\"name\":\"main\",\"stage\":4}",
+        "",
+    ),
+    (
+        32,
+        "{\"module\":\"0000000000000001\",\"name\":\"main\",\"stage\":1},{\"module\":\"0000000000000001\",\"name\":\"main\",\"stage\":1}",
+        "",
+    ),
+    (
+        36,
+        "{\"module\":\"0000000000000001\",\"name\":\"main\",\"stage\":1},{\"module\":\"0000000000000002\",\"name\":\"main\",\"stage\":2}",
+        "",
+    ),
+    // Parts that aren't stages.
+    (
+        0,
+        VERTEX,
+        ",\"colorBlendState\":{\"attachments\":[{}]},\"dynamicState\":{\"dynamicStates\":[0,1]},\"vertexInputState\":{\"vertexAttributeDescriptions\":[{\"binding\":7},{\"binding\":7,\"location\":1}],\"vertexBindingDescriptions\":[{\"binding\":7}]}",
+    ),
+    (41, VERTEX, ",\"basePipelineHandle\":\"0000000000000008\""),
+    (37, VERTEX, ",\"subpass\":1"),
+    (
+        38,
+        VERTEX,
+        ",\"vertexInputState\":{\"vertexAttributeDescriptions\":[{},{}],\"vertexBindingDescriptions\":[{}]}",
+    ),
+    (
+        38,
+        VERTEX,
+        ",\"vertexInputState\":{\"vertexAttributeDescriptions\":[{}]}",
+    ),
+    (39, VERTEX, ",\"colorBlendState\":{}"),
+    (40, VERTEX, ",\"dynamicState\":{\"dynamicStates\":[0,0]}"),
+];
 
 /// Adds a Load of the smallest module with an entry point `main` of this model.
 fn load_model(alloc: Global, out: &mut Vec<u8>, hash: u64, model: u8) -> Result<(), NoMemory> {
@@ -184,42 +227,48 @@ fn load_model(alloc: Global, out: &mut Vec<u8>, hash: u64, model: u8) -> Result<
     put_module(alloc, out, LOAD, hash, 13, &varints)
 }
 
-const LAYOUT: Key = Key { tag: 3, hash: 3 };
+/// Loads of what the judged states refer to: a sampler, a layout, a pass, and a module of each model under the number of its
+/// stage.
+fn given(alloc: Global) -> Result<Vec<u8>, NoMemory> {
+    let mut input = Vec::new(alloc);
+    put_state(alloc, &mut input, LOAD, Key { tag: 1, hash: 1 }, "{}")?;
+    put_state(alloc, &mut input, LOAD, LAYOUT, "{}")?;
+    put_state(alloc, &mut input, LOAD, Key { tag: 5, hash: 5 }, PASS)?;
+    for (model, stage) in [(0, 1), (1, 2), (2, 4), (3, 8), (4, 16), (5, 32)] {
+        load_model(alloc, &mut input, stage, model)?;
+    }
+    Ok(input)
+}
 
 #[test]
-fn compute_pipelines(rt: HostRuntime) -> Result<(), Fail> {
+fn each_state_is_answered_by_its_code(rt: HostRuntime) -> Result<(), Fail> {
     let alloc = rt.alloc();
-    let mut given = Vec::new(alloc);
-    put_state(alloc, &mut given, LOAD, LAYOUT, "pipelineLayouts", "{}")?;
-    load_model(alloc, &mut given, 4, 5)?;
-    load_model(alloc, &mut given, 5, 4)?;
-    let table = [
-        (
-            0,
-            "{\"layout\":\"0000000000000003\",\"stage\":{\"module\":\"0000000000000004\",\"name\":\"main\",\"specializationInfo\":{\"data\":\"AAAAAA==\",\"mapEntries\":[{\"size\":4}]},\"stage\":32}}",
-        ),
-        (
-            41,
-            "{\"basePipelineHandle\":\"0000000000000008\",\"layout\":\"0000000000000003\",\"stage\":{\"module\":\"0000000000000004\",\"name\":\"main\",\"stage\":32}}",
-        ),
-        (
-            28,
-            "{\"layout\":\"0000000000000003\",\"stage\":{\"module\":\"0000000000000004\",\"name\":\"mian\",\"stage\":16}}",
-        ),
-        (
-            29,
-            "{\"layout\":\"0000000000000003\",\"stage\":{\"module\":\"0000000000000004\",\"name\":\"mian\",\"stage\":32}}",
-        ),
-        (
-            29,
-            "{\"layout\":\"0000000000000003\",\"stage\":{\"module\":\"0000000000000005\",\"name\":\"main\",\"stage\":32}}",
-        ),
-        (
-            30,
-            "{\"layout\":\"0000000000000003\",\"stage\":{\"module\":\"0000000000000004\",\"name\":\"main\",\"specializationInfo\":{\"data\":\"AAAAAA==\",\"mapEntries\":[{\"offset\":1,\"size\":4}]},\"stage\":32}}",
-        ),
-    ];
-    assert!(rt; answers(alloc, &given, 7, "computePipelines", &table)?);
+    let mut input = given(alloc)?;
+    let mut wanted = Vec::from_slice(alloc, HELLO)?;
+    for (code, tag, object) in STATES {
+        let key = Key {
+            tag: *tag,
+            hash: HASH,
+        };
+        put_state(alloc, &mut input, DO, key, *object)?;
+        put_reply(&mut wanted, key, *code)?;
+    }
+    input.extend_from_slice(QUIT)?;
+    assert!(rt; comes_to(alloc, &input, pieces(1000), Served::Quit, &wanted)?);
+    Ok(())
+}
+
+#[test]
+fn each_module_is_answered_by_its_code(rt: HostRuntime) -> Result<(), Fail> {
+    let alloc = rt.alloc();
+    let mut input = Vec::new(alloc);
+    let mut wanted = Vec::from_slice(alloc, HELLO)?;
+    for (code, words, varints) in MODULES {
+        put_module(alloc, &mut input, DO, HASH, *words, *varints)?;
+        put_reply(&mut wanted, Key { tag: 4, hash: HASH }, *code)?;
+    }
+    input.extend_from_slice(QUIT)?;
+    assert!(rt; comes_to(alloc, &input, pieces(1000), Served::Quit, &wanted)?);
     Ok(())
 }
 
@@ -230,111 +279,18 @@ fn graphics(alloc: Global, stages: &str, more: &str) -> Result<String, NoMemory>
     )?)
 }
 
-/// Whether a worker with a layout, a pass with one colour attachment and a module of each model, under the number of its
-/// stage, answers each of these pipelines with its code.
-fn judges(alloc: Global, table: &[(u32, &str, &str)]) -> Result<bool, Fail> {
-    let mut input = Vec::new(alloc);
-    put_state(alloc, &mut input, LOAD, LAYOUT, "pipelineLayouts", "{}")?;
-    let pass = "{\"attachments\":[{\"samples\":1}],\"subpasses\":[{\"colorAttachments\":[{}]}]}";
-    put_state(
-        alloc,
-        &mut input,
-        LOAD,
-        Key { tag: 5, hash: 5 },
-        "renderPasses",
-        pass,
-    )?;
-    for (model, stage) in [(0, 1), (1, 2), (2, 4), (3, 8), (4, 16)] {
-        load_model(alloc, &mut input, stage, model)?;
-    }
-    let key = Key { tag: 6, hash: HASH };
+#[test]
+fn each_graphics_pipeline_is_answered_by_its_code(rt: HostRuntime) -> Result<(), Fail> {
+    let alloc = rt.alloc();
+    let mut input = given(alloc)?;
     let mut wanted = Vec::from_slice(alloc, HELLO)?;
-    for (code, stages, more) in table {
+    let key = Key { tag: 6, hash: HASH };
+    for (code, stages, more) in PIPELINES {
         let object = graphics(alloc, *stages, *more)?;
-        put_state(alloc, &mut input, DO, key, "graphicsPipelines", &object)?;
+        put_state(alloc, &mut input, DO, key, &object)?;
         put_reply(&mut wanted, key, *code)?;
     }
     input.extend_from_slice(QUIT)?;
-    let session = serve_bytes(alloc, &input, 1000)?;
-    Ok(session.end == Served::Quit && session.written == wanted)
-}
-
-const VERTEX: &str = "{\"module\":\"0000000000000001\",\"name\":\"main\",\"stage\":1}";
-
-#[test]
-fn stages_of_graphics_pipelines(rt: HostRuntime) -> Result<(), Fail> {
-    let fragment = "{\"module\":\"0000000000000010\",\"name\":\"main\",\"stage\":16}";
-    let table = [
-        (0, VERTEX, ""),
-        (31, "", ""),
-        (31, "{\"module\":\"0000000000000001\",\"stage\":32}", ""),
-        (33, fragment, ""),
-        (
-            34,
-            "{\"module\":\"0000000000000001\",\"name\":\"mian\",\"stage\":1}",
-            "",
-        ),
-        (
-            34,
-            "{\"module\":\"0000000000000010\",\"name\":\"main\",\"stage\":1}",
-            "",
-        ),
-        (
-            35,
-            "{\"module\":\"0000000000000001\",\"name\":\"main\",\"specializationInfo\":{\"mapEntries\":[{\"size\":1}]},\"stage\":1}",
-            "",
-        ),
-    ];
-    assert!(rt; judges(rt.alloc(), &table)?);
-    Ok(())
-}
-
-#[test]
-fn several_stages_of_graphics_pipelines(rt: HostRuntime) -> Result<(), Fail> {
-    let table = [
-        (
-            0,
-            "{\"module\":\"0000000000000001\",\"name\":\"main\",\"stage\":1},{\"module\":\"0000000000000002\",\"name\":\"main\",\"stage\":2},{\"module\":\"0000000000000004\",\"name\":\"main\",\"stage\":4}",
-            "",
-        ),
-        (
-            32,
-            "{\"module\":\"0000000000000001\",\"name\":\"main\",\"stage\":1},{\"module\":\"0000000000000001\",\"name\":\"main\",\"stage\":1}",
-            "",
-        ),
-        (
-            36,
-            "{\"module\":\"0000000000000001\",\"name\":\"main\",\"stage\":1},{\"module\":\"0000000000000002\",\"name\":\"main\",\"stage\":2}",
-            "",
-        ),
-    ];
-    assert!(rt; judges(rt.alloc(), &table)?);
-    Ok(())
-}
-
-#[test]
-fn parts_of_graphics_pipelines(rt: HostRuntime) -> Result<(), Fail> {
-    let table = [
-        (
-            0,
-            VERTEX,
-            ",\"colorBlendState\":{\"attachments\":[{}]},\"dynamicState\":{\"dynamicStates\":[0,1]},\"vertexInputState\":{\"vertexAttributeDescriptions\":[{\"binding\":7},{\"binding\":7,\"location\":1}],\"vertexBindingDescriptions\":[{\"binding\":7}]}",
-        ),
-        (41, VERTEX, ",\"basePipelineHandle\":\"0000000000000008\""),
-        (37, VERTEX, ",\"subpass\":1"),
-        (
-            38,
-            VERTEX,
-            ",\"vertexInputState\":{\"vertexAttributeDescriptions\":[{},{}],\"vertexBindingDescriptions\":[{}]}",
-        ),
-        (
-            38,
-            VERTEX,
-            ",\"vertexInputState\":{\"vertexAttributeDescriptions\":[{}]}",
-        ),
-        (39, VERTEX, ",\"colorBlendState\":{}"),
-        (40, VERTEX, ",\"dynamicState\":{\"dynamicStates\":[0,0]}"),
-    ];
-    assert!(rt; judges(rt.alloc(), &table)?);
+    assert!(rt; comes_to(alloc, &input, pieces(1000), Served::Quit, &wanted)?);
     Ok(())
 }

@@ -12,6 +12,9 @@ pub const DO: u8 = 3;
 
 pub const HELLO: &[u8] = b"\x05\0\0\0\x01FOZ\x01";
 
+/// A layout without anything, which others refer to.
+pub const LAYOUT: Key = Key { tag: 3, hash: 3 };
+
 pub const QUIT: &[u8] = b"\x01\0\0\0\x05";
 
 // No payload of these tests is longer.
@@ -37,12 +40,25 @@ pub fn put_reply(out: &mut Vec<u8>, key: Key, code: u32) -> Result<(), NoMemory>
     Ok(())
 }
 
-/// Adds the JSON that has this object under a member and a hash.
-fn put_json(out: &mut Vec<u8>, member: &str, hash: u64, object: &str) -> Result<(), NoMemory> {
+/// The member of the JSON in which the states of a kind stand.
+fn member_of(tag: u32) -> &'static str {
+    match tag {
+        1 => "samplers",
+        2 => "setLayouts",
+        3 => "pipelineLayouts",
+        4 => "shaderModules",
+        5 => "renderPasses",
+        6 => "graphicsPipelines",
+        _ => "computePipelines",
+    }
+}
+
+/// Adds the JSON that has this object under its key.
+fn put_json(out: &mut Vec<u8>, key: Key, object: &str) -> Result<(), NoMemory> {
     out.extend_from_slice(b"{\"")?;
-    out.extend_from_slice(member.as_bytes())?;
+    out.extend_from_slice(member_of(key.tag).as_bytes())?;
     out.extend_from_slice(b"\":{\"")?;
-    out.extend_from_slice(&hex16(hash))?;
+    out.extend_from_slice(&hex16(key.hash))?;
     out.extend_from_slice(b"\":")?;
     out.extend_from_slice(object.as_bytes())?;
     out.extend_from_slice(b"},\"version\":6}")?;
@@ -55,11 +71,10 @@ pub fn put_state(
     out: &mut Vec<u8>,
     kind: u8,
     key: Key,
-    member: &str,
     object: &str,
 ) -> Result<(), NoMemory> {
     let mut payload = Vec::new(alloc);
-    put_json(&mut payload, member, key.hash, object)?;
+    put_json(&mut payload, key, object)?;
     put_work(out, kind, key, &payload)
 }
 
@@ -72,43 +87,48 @@ pub fn put_module(
     words: u32,
     varints: &[u8],
 ) -> Result<(), NoMemory> {
+    let key = Key { tag: 4, hash };
     let size = words.min(1000) * 4;
     let window = varints.len();
     let object = format!(in alloc; "{{\"codeSize\":{size},\"varintSize\":{window}}}")?;
     let mut payload = Vec::new(alloc);
-    put_json(&mut payload, "shaderModules", hash, &object)?;
+    put_json(&mut payload, key, &object)?;
     payload.push(0)?;
     payload.extend_from_slice(varints)?;
-    put_work(out, kind, Key { tag: 4, hash }, &payload)
+    put_work(out, kind, key, &payload)
 }
 
-/// What a session came to.
-#[derive(Drop)]
-pub struct Session {
-    pub end: Served,
-    pub written: Vec<u8>,
+/// How a source and a sink behave: how many bytes are given in a call, and the calls that fail.
+#[derive(Clone, Copy)]
+pub struct Calls<'a> {
+    pub step: usize,
+    pub reads: &'a [u64],
+    pub writes: &'a [u64],
 }
 
-/// Serves these bytes from a source that gives `step` bytes in a call. The source and the sink fail at the calls that are
-/// listed.
-pub fn serve_failing(
+/// Calls that give so many bytes, and don't fail.
+pub fn pieces(step: usize) -> Calls<'static> {
+    Calls {
+        step,
+        reads: &[],
+        writes: &[],
+    }
+}
+
+/// Whether the shipped driver's session over these bytes ends so, and writes this.
+pub fn comes_to(
     alloc: Global,
     input: &[u8],
-    step: usize,
-    reads: &[u64],
-    writes: &[u64],
-) -> Result<Session, Fail> {
+    calls: Calls,
+    end: Served,
+    written: &[u8],
+) -> Result<bool, Fail> {
     let mut bytes = Vec::from_slice(alloc, input)?;
     bytes.truncate(1_000_000);
-    let mut source = MemSource::new(bytes, step.max(1), Vec::from_slice(alloc, reads)?);
-    let mut sink = MemSink::new(alloc, 10_000, 7, Vec::from_slice(alloc, writes)?)?;
+    let reads = Vec::from_slice(alloc, calls.reads)?;
+    let mut source = MemSource::new(bytes, calls.step.max(1), reads);
+    let mut sink = MemSink::new(alloc, 10_000, 7, Vec::from_slice(alloc, calls.writes)?)?;
     let mut driver = CheckDriver::new(alloc);
-    let end = serve(alloc, &mut source, &mut sink, &mut driver);
-    let written = Vec::from_slice(alloc, sink.written())?;
-    Ok(Session { end, written })
-}
-
-/// The same with no failure.
-pub fn serve_bytes(alloc: Global, input: &[u8], step: usize) -> Result<Session, Fail> {
-    serve_failing(alloc, input, step, &[], &[])
+    let ended = serve(alloc, &mut source, &mut sink, &mut driver);
+    Ok(ended == end && sink.written() == written)
 }

@@ -1,7 +1,6 @@
 use Rattle.std.proofs.Common.{ap, arith}
 use Rattle.replay_core.specs.Runs.{Setup}
 use Rattle.check_run.proofs.Driven.{going_first, all_checked, never_idle, started_inside, going_on, smaller}
-use Rattle.check_run.proofs.Picked.{number_inside}
 use Rattle.check_run.proofs.run.run_items.Goals as goal
 
 pub items-init : goal.items-init
@@ -21,13 +20,12 @@ pub unreachable-requires : goal.unreachable-requires
 unreachable-requires g c =
     never_idle g.R.Driver.creates (g.R.Driver.meaning c.args.driver.now) c.args.entries.now c.args.graph.now c.items.core c.next.new.self (g.R.Driver.meaning c.items.driver) c.items.invariant.going c.in-Idle.ensures.turn
 
-pub answer-requires-clause-graph : goal.answer-requires-clause-graph
-answer-requires-clause-graph g c = c.requires.graph
+pub answer-requires-clause-plan : goal.answer-requires-clause-plan
+answer-requires-clause-plan g c = c.requires.plan
 
 pub answer-requires-clause-inside : goal.answer-requires-clause-inside
 answer-requires-clause-inside g c =
-    number_inside c.args.entries.now c.args.graph.now c.in-Work.item c.requires.graph
-    (started_inside g.R.Driver.creates (g.R.Driver.meaning c.args.driver.now) c.args.entries.now c.args.graph.now c.items.core c.next.new.self (g.R.Driver.meaning c.items.driver) c.in-Work.item c.items.invariant.going c.in-Work.ensures.turn)
+    started_inside g.R.Driver.creates (g.R.Driver.meaning c.args.driver.now) c.args.entries.now c.args.graph.now c.items.core c.next.new.self (g.R.Driver.meaning c.items.driver) c.in-Work.item c.items.invariant.going c.in-Work.ensures.turn
 
 pub reply-requires : goal.reply-requires
 reply-requires g c = record { held = (c.in-Work.item, c.in-Work.ensures.slot) }
@@ -36,10 +34,10 @@ pub items-preserved : goal.items-preserved
 items-preserved g c = record {
   going =
       going_on g.R.Driver.creates (g.R.Driver.meaning c.args.driver.now) c.args.entries.now c.args.graph.now c.items.core c.next.new.self c.reply.new.self (g.R.Driver.meaning c.items.driver) (g.R.Driver.meaning c.answer.new.driver) c.in-Work.item c.in_ok-code-in-Work.code c.items.invariant.going c.in-Work.ensures.turn c.in-Work.ensures.slot
-      c.in_ok-code-in-Work.ensures (c.reply.ensures c.in-Work.item c.in-Work.ensures.slot);
+      c.in_ok-code-in-Work.ensures (c.reply.ensures.added c.in-Work.item c.in-Work.ensures.slot);
 }
 
 pub items-smaller : goal.items-smaller
 items-smaller g c =
-    smaller c.items.core c.next.new.self c.reply.new.self c.in-Work.item c.in_ok-code-in-Work.code c.in-Work.ensures.turn (c.reply.ensures c.in-Work.item c.in-Work.ensures.slot)
-    (omega (arith, c.room.ensures.never_passed, c.room.ensures.room))
+    smaller c.items.core c.next.new.self c.reply.new.self c.in-Work.item c.in_ok-code-in-Work.code c.in-Work.ensures.turn (c.reply.ensures.added c.in-Work.item c.in-Work.ensures.slot)
+    c.reply.ensures.never_passed

@@ -1,38 +1,31 @@
-use Rattle.std.proofs.Common.{◌≡◌, true, None, Some, refl, sym, ◌∙◌, ℕ}
-use Rattle.record_words.specs.Entries.{is_undamaged, holder}
-use Rattle.dep_graph.specs.Classes.{IsFirstOfKey}
-use Rattle.dep_graph.specs.Surveys.{IsSorted}
+use Rattle.std.proofs.Common.{refl, sym, ◌∙◌}
+use Rattle.indexmap.specs.IndexMap.{get}
+use Rattle.foz_words.specs.contracts.key.KeyPartialEq.TheImpl as KeyPartialEq
 use Rattle.dep_graph.proofs.Results.{on_any, if_more}
-use Rattle.dep_graph.proofs.Indexed.{passed, failed, damaged_is, damaged_indexed, held_indexed, first_indexed}
+use Rattle.dep_graph.proofs.Indexed.{passed, damaged_is, is_found}
 use Rattle.dep_graph.proofs.survey.sort.Goals as goal
-
-pub returns-in-Err-clause-indexed : goal.returns-in-Err-clause-indexed
-returns-in-Err-clause-indexed c = λ before long indexed.
-    damaged_indexed before c.args.entry.now c.args.index.now
-    (damaged_is c.args.entry.now c.in-Err.cause (failed c.args.entry.now c.as_slice.result.now c.in-Err.cause c.as_slice.ensures c.in-Err.ensures)) indexed
 
 pub returns-in-Some-clause-indexed : goal.returns-in-Some-clause-indexed
 returns-in-Some-clause-indexed c = λ before long indexed.
-    held_indexed before c.args.entry.now c.args.index.now c.in-Some.first (passed c.args.entry.now c.as_slice.result.now c.as_slice.ensures c.in_default.ensures)
-    (sym (indexed c.args.entry.now.head.key) ∙ sym (c.in-Some.ensures ∙ c.get.ensures.value)) indexed
+    c.indexes_grow.ensures.damaged (get KeyPartialEq.ghosts.eq c.args.index.now) before c.args.entry.now indexed (damaged_is c.args.entry.now c.in-Some.cause (sym c.requires.found ∙ c.in-Some.is))
 
-pub returns-in-Some-clause-sorted : goal.returns-in-Some-clause-sorted
-returns-in-Some-clause-sorted c = λ before indexed.
-    (λ items. (passed c.args.entry.now c.as_slice.result.now c.as_slice.ensures c.in_default.ensures, sym (indexed c.args.entry.now.head.key) ∙ sym (c.in-Some.ensures ∙ c.get.ensures.value)), refl)
+pub returns-in-Some-copied-clause-indexed : goal.returns-in-Some-copied-clause-indexed
+returns-in-Some-copied-clause-indexed c = λ before long indexed.
+    c.indexes_grow.ensures.held (get KeyPartialEq.ghosts.eq c.args.index.now) before c.args.entry.now indexed (is_found _ c.in-Some-copied.first (c.in-Some-copied.ensures ∙ c.get.ensures.value))
+
+pub returns-in-Some-copied-clause-sorted : goal.returns-in-Some-copied-clause-sorted
+returns-in-Some-copied-clause-sorted c = λ before indexed.
+    (λ items. (passed c.args.entry.now c.args.found c.requires.found c.in_default.is, sym (indexed c.args.entry.now.head.key) ∙ sym (c.in-Some-copied.ensures ∙ c.get.ensures.value)), refl)
 
 pub returns-clause-indexed : goal.returns-clause-indexed
 returns-clause-indexed c = on_any c.read_first.result (λ before long indexed.
-    first_indexed before c.args.entry.now c.args.index.now c.insert.new.self c.args.place long
-    (record {
-      sound = passed c.args.entry.now c.as_slice.result.now c.as_slice.ensures c.in_default.ensures;
-      first = sym (indexed c.args.entry.now.head.key) ∙ sym (c.in_default-copied.ensures ∙ c.get.ensures.value);
-    })
-    c.in_ok-insert.ensures.updates indexed)
+    c.indexes_grow.ensures.first (get KeyPartialEq.ghosts.eq c.args.index.now) (get KeyPartialEq.ghosts.eq c.insert.new.self) before c.args.entry.now c.args.place indexed
+    (passed c.args.entry.now c.args.found c.requires.found c.in_default.is) (sym (c.in_default-copied.ensures ∙ c.get.ensures.value)) long c.in_ok-insert.ensures.updates.0)
 
 pub returns-clause-sorted : goal.returns-clause-sorted
 returns-clause-sorted c = if_more _ _ c.read_first.result (λ sorted told before indexed. told before
     (record {
-      sound = passed c.args.entry.now c.as_slice.result.now c.as_slice.ensures c.in_default.ensures;
+      sound = passed c.args.entry.now c.args.found c.requires.found c.in_default.is;
       first = sym (indexed c.args.entry.now.head.key) ∙ sym (c.in_default-copied.ensures ∙ c.get.ensures.value);
     }))
     c.read_first.ensures

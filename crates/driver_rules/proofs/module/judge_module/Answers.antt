@@ -1,34 +1,24 @@
 use Rattle.std.proofs.Common.{◌≡◌, ◌≢◌, Ok, Err, ap, ◌∙◌}
-use Rattle.driver_rules.specs.Modules.{code_of, entries_of, module_code, entries_in, answer_of}
+use Rattle.driver_rules.specs.Modules.{code_of, shape_entries, module_code, entries_in}
 use Rattle.spirv_check.specs.declared.error.SpirvError.TheVariants.{Memory}
-use Rattle.driver_rules.proofs.Answered.{answered, told_answer}
 use Rattle.driver_rules.proofs.module.judge_module.Goals as goal
 
 pub returns-in-Ok-clause-code : goal.returns-in-Ok-clause-code
 unfolding module_code
-returns-in-Ok-clause-code c = ap code_of (told_answer c.args.words.now _ c.in-Ok.ensures.only (λ e. cc))
+returns-in-Ok-clause-code c = ap code_of (c.in-Ok.ensures.only (λ e. cc))
 
 pub returns-in-Ok-clause-entries : goal.returns-in-Ok-clause-entries
 unfolding entries_in
-returns-in-Ok-clause-entries c = ap entries_of (told_answer c.args.words.now _ c.in-Ok.ensures.only (λ e. cc))
-
-pub returns-in-Ok-clause-answer : goal.returns-in-Ok-clause-answer
-returns-in-Ok-clause-answer c = let known = answered c.args.words.now in (known.fits, known.told)
-
-pub returns-in_err-fault_code-in-Err-clause-answer : goal.returns-in_err-fault_code-in-Err-clause-answer
-returns-in_err-fault_code-in-Err-clause-answer c = let known = answered c.args.words.now in (known.fits, known.told)
-
-pub returns-in_ok-fault_code-in-Err-clause-answer : goal.returns-in_ok-fault_code-in-Err-clause-answer
-returns-in_ok-fault_code-in-Err-clause-answer c = let known = answered c.args.words.now in (known.fits, known.told)
+returns-in-Ok-clause-entries c = ap shape_entries (c.in-Ok.ensures.only (λ e. cc))
 
 pub returns-in_ok-fault_code-in-Err-clause-code : goal.returns-in_ok-fault_code-in-Err-clause-code
 unfolding module_code
 returns-in_ok-fault_code-in-Err-clause-code c =
     let told = c.in_ok-fault_code-in-Err.ensures.1 in
-    c.in_ok-fault_code-in-Err.ensures.0 ∙ ap code_of (told_answer c.args.words.now _ c.in-Err.ensures.only (λ e. told cc))
+    c.in_ok-fault_code-in-Err.ensures.0 ∙ ap code_of (c.in-Err.ensures.only (λ e. told cc))
 
 pub returns-in_ok-fault_code-in-Err-clause-entries : goal.returns-in_ok-fault_code-in-Err-clause-entries
 unfolding entries_in
 returns-in_ok-fault_code-in-Err-clause-entries c =
     let told = c.in_ok-fault_code-in-Err.ensures.1 in
-    c.new.ensures ∙ ap entries_of (told_answer c.args.words.now _ c.in-Err.ensures.only (λ e. told cc))
+    c.new.ensures ∙ ap shape_entries (c.in-Err.ensures.only (λ e. told cc))

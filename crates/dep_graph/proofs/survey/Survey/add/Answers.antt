@@ -1,5 +1,4 @@
-use Rattle.std.proofs.Common.{◌≡◌, refl, sym, ◌∙◌, subst}
-use Rattle.dep_graph.specs.declared.survey.Sorted.{Sorted}
+use Rattle.std.proofs.Common.{refl, sym, ◌∙◌, subst}
 use Rattle.dep_graph.specs.declared.survey.Sorted.TheVariants.{Item, Other}
 use Rattle.dep_graph.specs.Surveys.{IsSorted}
 use Rattle.dep_graph.proofs.Results.{on_more}

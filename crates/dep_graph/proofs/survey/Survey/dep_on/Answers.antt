@@ -1,4 +1,4 @@
-use Rattle.std.proofs.Common.{◌≡◌, Some, None, sym, ap, ◌∙◌}
+use Rattle.std.proofs.Common.{Some, None, sym, ap, ◌∙◌}
 use Rattle.dep_graph.specs.Surveys.{number_in}
 use Rattle.dep_graph.proofs.Numbers.{none_holds, number_holds}
 use Rattle.dep_graph.proofs.survey.Survey.dep_on.Goals as goal

@@ -1,7 +1,7 @@
 use Rattle.std.proofs.Common.{◌≡◌, ◌∙◌, List, ap}
 use Rattle.foz_words.specs.declared.key.Key.{Key}
 use Rattle.state_words.specs.declared.state.State.{State}
-use Rattle.driver_check.specs.Kept.{Kept, kept_in, with_state}
+use Rattle.driver_check.specs.Kept.{KeptStates, kept_in, with_state}
 use Rattle.driver_check.proofs.check_driver.CheckDriver.keep.Goals as goal
 
 pub returns-clause-ok : goal.returns-clause-ok

@@ -1,14 +1,15 @@
 use Rattle.std.proofs.Common.{◌≡◌, ◌<◌, ◌≤◌, length, sym, subst, ap, ◌∙◌, arith}
 use Rattle.std.specs.Vec.{vec_len, vec_capacity}
-use Rattle.replay_core.specs.Runs.{Allowed}
+use Rattle.replay_core.specs.Runs.{Allowed, setup_of}
 use Rattle.replay_core.specs.Histories.{History}
-use Rattle.replay_core.specs.Boards.{judged, states_with, decide}
+use Rattle.replay_core.specs.Notes.{judged, states_with, decide}
 use Rattle.replay_core.specs.Counting.{with_decided, with_event}
 use Rattle.replay_core.proofs.Keeping.{written, fits_push, tally_push, judged_inside, event_fits, length-states_with, length-decide}
+use Rattle.replay_core.proofs.Rooms.{room_kept}
 use Rattle.replay_core.proofs.record.Record.add.Goals as goal
 use Rattle.replay_core.proofs.record.Record.add.Goals.{After-as_mut_slice}
 
-allowed : (c : After-as_mut_slice) → Allowed (record { plan = c.self.inside.plan; slots = length c.self.inside.states.items }) c.self.inside.events.items c.args.event
+allowed : (c : After-as_mut_slice) → Allowed (setup_of c.self.inside.plan (length c.self.inside.states.items)) c.self.inside.events.items c.args.event
 allowed c = subst (λ (h : History). Allowed h.setup h.events c.args.event) (sym c.self.view_is) c.requires
 
 decided : (c : After-as_mut_slice) → c.judge-decided.result ≡ judged c.self.inside.states.items c.args.event
@@ -43,3 +44,11 @@ invariant_of-self c =
           c.push.ensures.capacity,
       tally_push _ _ _ _ _ _ c.args.event _ _ c.self.invariant.0.keeps (allowed at) c.self.invariant.1 new_verdicts c.in-Ok.ensures.items counts_are,
     )
+
+pub returns-clause-never_passed : goal.returns-clause-never_passed
+returns-clause-never_passed c =
+    let at = (goal.at.returns-clause-never_passed c).After-as_mut_slice in
+    let states_are : c.note_state.new.states ≡ states_with c.self.inside.states.items c.args.event = c.note_state.ensures ∙ ap (λ s. states_with s c.args.event) c.as_mut_slice-2.ensures.value in
+    room_kept _ c.self.inside.states.items _ _ c.self.inside.events.items _ c.args.event c.self.invariant.0.keeps (allowed at)
+    (written _ _ _ c.self.inside.states.ok.0 (ap length states_are ∙ length-states_with _ c.args.event) ∙ states_are)
+    c.in-Ok.ensures.items

@@ -1,11 +1,13 @@
 use Rattle.std.proofs.Common.{◌≡◌, ◌<◌, subst, sym, ap, ◌∙◌, refl}
 use Rattle.replay_core.specs.declared.event.Event.TheVariants.{Start}
 use Rattle.replay_core.specs.declared.event.SlotState.TheVariants.{Idle}
-use Rattle.replay_core.specs.Runs.{NoMiss, AllDecided, Allowed, slot_at}
+use Rattle.replay_core.specs.Runs.{Setup, NoMiss, AllDecided, Allowed, slot_at}
 use Rattle.replay_core.specs.Histories.{History}
-use Rattle.replay_core.specs.Turns.{state_told, AddsMisses, TakesTurn}
+use Rattle.replay_core.specs.Turns.{state_told, IsFoundedWork, AddsMisses, TakesTurn}
+use Rattle.replay_core.specs.Plans.{Founded}
+use Rattle.replay_core.proofs.Grounds.{ready_founded}
 use Rattle.replay_core.proofs.Turning.{no_miss_after_start, undecided_after_start}
-use Rattle.replay_core.proofs.Settled.{settled_no_miss, settled_no_start, kept_quiet, kept_taken, idle_told, asks_on, started_holds, started_not_waiting}
+use Rattle.replay_core.proofs.Settled.{settled_no_miss, settled_no_start, kept_quiet, kept_taken, idle_told, asks_on, setup_on, started_holds, started_not_waiting}
 use Rattle.replay_core.proofs.scheduler.Core.next.Goals as goal
 use Rattle.replay_core.proofs.scheduler.Core.next.Goals.{After-settle, In-Some, In_default, then-all_decided, else-all_decided}
 
@@ -28,18 +30,18 @@ pub invariant_of-self : goal.invariant_of-self
 invariant_of-self c =
     let at = goal.at.invariant_of-self c in
     kept_taken c.add.new.self c.first_ready.new.queues c.in-Some.item
-    (kept_quiet c.settle.new.story c.add.new.self c.first_ready.new.queues (Start c.args.slot c.in-Some.item) c.in-Some.ensures.kept (may_start at.After-settle at.In-Some) (λ j. refl) c.add.ensures)
-    c.in-Some.ensures.inside c.in-Some.ensures.first (started_not_waiting c.settle.new.story c.add.new.self c.args.slot c.in-Some.item c.add.ensures)
+    (kept_quiet c.settle.new.story c.add.new.self c.first_ready.new.queues (Start c.args.slot c.in-Some.item) c.in-Some.ensures.kept (may_start at.After-settle at.In-Some) (λ j. refl) c.add.ensures.added)
+    c.in-Some.ensures.inside c.in-Some.ensures.first (started_not_waiting c.settle.new.story c.add.new.self c.args.slot c.in-Some.item c.add.ensures.added)
 
 pub returns-in-Some-clause-turn : goal.returns-in-Some-clause-turn
 returns-in-Some-clause-turn c =
     let at = goal.at.returns-in-Some-clause-turn c in
-    record { between = c.settle.new.story; misses = misses at.After-settle; no_miss = no_miss at.After-settle; told = (may_start at.After-settle at.In-Some, c.add.ensures) }
+    record { between = c.settle.new.story; misses = misses at.After-settle; no_miss = no_miss at.After-settle; told = (may_start at.After-settle at.In-Some, c.add.ensures.added) }
 
 pub returns-in-Some-clause-no_miss : goal.returns-in-Some-clause-no_miss
 returns-in-Some-clause-no_miss c =
     let at = goal.at.returns-in-Some-clause-no_miss c in
-    subst (λ (h : History). NoMiss h.setup h.events) (sym c.add.ensures)
+    subst (λ (h : History). NoMiss h.setup h.events) (sym c.add.ensures.added)
     (no_miss_after_start c.settle.new.story.setup c.settle.new.story.events c.args.slot c.in-Some.item (no_miss at.After-settle) (may_start at.After-settle at.In-Some))
 
 pub returns-in-Some-clause-finished : goal.returns-in-Some-clause-finished
@@ -47,7 +49,7 @@ returns-in-Some-clause-finished c =
     let at = goal.at.returns-in-Some-clause-finished c in (
       λ e. cc,
       λ all. absurd (undecided_after_start c.settle.new.story.setup c.settle.new.story.events c.args.slot c.in-Some.item (may_start at.After-settle at.In-Some)
-          (subst (λ (h : History). AllDecided h.setup h.events) c.add.ensures all)),
+          (subst (λ (h : History). AllDecided h.setup h.events) c.add.ensures.added all)),
     )
 
 pub returns-clause-no_miss : goal.returns-clause-no_miss
@@ -71,7 +73,7 @@ returns-clause-turn c =
     ]
 
 pub returns-in-Some-clause-slot : goal.returns-in-Some-clause-slot
-returns-in-Some-clause-slot c = started_holds c.settle.new.story c.add.new.self c.args.slot c.in-Some.item c.add.ensures
+returns-in-Some-clause-slot c = started_holds c.settle.new.story c.add.new.self c.args.slot c.in-Some.item c.add.ensures.added
 
 pub returns-clause-slot : goal.returns-clause-slot
 returns-clause-slot c =
@@ -79,4 +81,17 @@ returns-clause-slot c =
     elim c.if-all_decided.branch [
       | then-all_decided w ↦ ask.1 ∙ ap state_told (sym w.result-is)
       | else-all_decided w ↦ ask.1 ∙ ap state_told (sym w.result-is)
+    ]
+
+pub returns-in-Some-clause-founded : goal.returns-in-Some-clause-founded
+returns-in-Some-clause-founded c =
+    let at = goal.at.returns-in-Some-clause-founded c in
+    subst (λ (s : Setup). Founded s.plan c.in-Some.item) (setup_on c.self.inside.record c.args.self.now c.settle.new.story c.self.view_is c.settle.ensures.misses)
+    (ready_founded c.settle.new.story.setup c.settle.new.story.events c.in-Some.item c.settle.ensures.kept.run c.in-Some.ensures.waits.in_plan c.in-Some.ensures.met)
+
+pub returns-clause-founded : goal.returns-clause-founded
+returns-clause-founded c =
+    elim c.if-all_decided.branch [
+      | then-all_decided w ↦ subst (IsFoundedWork c.args.self.now.setup.plan) (sym w.result-is) tt
+      | else-all_decided w ↦ subst (IsFoundedWork c.args.self.now.setup.plan) (sym w.result-is) tt
     ]

@@ -16,4 +16,4 @@ pub add-requires : goal.add-requires
 add-requires c = allowed (goal.at.add-requires c).After-self
 
 pub invariant_of-self : goal.invariant_of-self
-invariant_of-self c = kept_quiet c.self.inside.record c.add.new.self c.self.inside.queues (Restart c.args.slot) c.self.invariant (allowed (goal.at.invariant_of-self c).After-self) (λ j. refl) c.add.ensures
+invariant_of-self c = kept_quiet c.self.inside.record c.add.new.self c.self.inside.queues (Restart c.args.slot) c.self.invariant (allowed (goal.at.invariant_of-self c).After-self) (λ j. refl) c.add.ensures.added

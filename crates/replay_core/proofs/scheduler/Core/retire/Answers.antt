@@ -8,4 +8,4 @@ use Rattle.replay_core.proofs.scheduler.Core.retire.Goals as goal
 pub invariant_of-self : goal.invariant_of-self
 invariant_of-self c =
     kept_quiet c.self.inside.record c.add.new.self c.self.inside.queues (Retire c.args.slot) c.self.invariant
-    (subst (λ (h : History). Allowed h.setup h.events (Retire c.args.slot)) (sym c.self.view_is) (c.requires.slot, c.requires.at_rest)) (λ j. refl) c.add.ensures
+    (subst (λ (h : History). Allowed h.setup h.events (Retire c.args.slot)) (sym c.self.view_is) (c.requires.slot, c.requires.at_rest)) (λ j. refl) c.add.ensures.added

@@ -12,7 +12,7 @@ use Rattle.replay_core.specs.declared.event.Verdict.TheVariants.{Done, Blamed, M
 use Rattle.replay_core.specs.declared.event.SlotState.{SlotState}
 use Rattle.replay_core.specs.declared.event.SlotState.TheVariants.{Idle, Holds, Dead, Retired}
 use Rattle.replay_core.specs.Plans.{items_of, deps_of, Founded}
-use Rattle.replay_core.specs.Runs.{Setup, state_after, slot_at, verdict_of, IsMet, IsLost, IsRun}
+use Rattle.replay_core.specs.Runs.{Setup, setup_of, state_after, slot_at, verdict_of, IsMet, IsLost, IsRun}
 use Rattle.replay_core.specs.Queues.{HangsAt}
 use Rattle.replay_core.specs.Histories.{room_of, IsPlan}
 
@@ -61,11 +61,12 @@ allowance Retired = 0
 
 -- the states and verdicts are those of the events, which are a run and leave room for what may come
 pub record Keeps (s : Setup) (es : List Event) (states : List SlotState) (verdicts : List (Option Verdict)) : Type 0 where
+  pub deaths : s.deaths ≡ 1
   pub run : IsRun s es
   pub slots : length states ≡ s.slots
   pub items : length verdicts ≡ items_of s.plan
   pub each_state : (w : ℕ) → w < s.slots → slice_index_or states w Idle ≡ slot_at es w
-  pub each_verdict : (i : ℕ) → i < items_of s.plan → slice_index_or verdicts i None ≡ verdict_of es i
+  pub each_verdict : (i : ℕ) → i < items_of s.plan → slice_index_or verdicts i None ≡ verdict_of s es i
   pub budget : length es + (3 * count_by is_none verdicts + sum_by allowance states) ≤ room_of s
 
 -- the marks say which items are founded
@@ -80,8 +81,8 @@ pub record FitsTogether (plan : Plan) (marks : List Bool) (states : List SlotSta
   pub some_slot : 0 < length states
   pub few_slots : length states ≤ 16
   pub founded : MarksFounded plan marks
-  pub keeps : Keeps (record { plan = plan; slots = length states }) es states verdicts
-  pub room : room_of (record { plan = plan; slots = length states }) ≤ capacity
+  pub keeps : Keeps (setup_of plan (length states)) es states verdicts
+  pub room : room_of (setup_of plan (length states)) ≤ capacity
 
 -- by the verdicts kept, the dependency is an item that succeeded
 abbrev pub MetIn : List (Option Verdict) → Dep → Type 0
@@ -107,10 +108,10 @@ ProspectIn marks verdicts deps (Pending place) = (dep : Dep) × FirstUnmetIn ver
 
 -- item i may be missing at place p, as far as its dependencies go
 abbrev pub HasMissAt : Setup → List Event → ℕ → ℕ → Type 0
-HasMissAt s es i p = All (IsMet es) (take p (deps_of s.plan i)) × IsSomeAnd (slice_get (deps_of s.plan i) p) (IsLost s.plan es)
+HasMissAt s es i p = All (IsMet s es) (take p (deps_of s.plan i)) × IsSomeAnd (slice_get (deps_of s.plan i) p) (IsLost s es)
 
 -- the prospect of item i after the events es, as far as its dependencies go
 abbrev pub IsProspect : Setup → List Event → ℕ → Prospect → Type 0
-IsProspect s es i Ready = All (IsMet es) (deps_of s.plan i) × ((p : ℕ) → HasMissAt s es i p → ⊥)
-IsProspect s es i (Lost place) = HasMissAt s es i place × (All (IsMet es) (deps_of s.plan i) → ⊥)
-IsProspect s es i (Pending place) = (place ≤ length (deps_of s.plan i)) × All (IsMet es) (take place (deps_of s.plan i)) × HangsAt s es place i × (All (IsMet es) (deps_of s.plan i) → ⊥) × ((p : ℕ) → HasMissAt s es i p → ⊥)
+IsProspect s es i Ready = All (IsMet s es) (deps_of s.plan i) × ((p : ℕ) → HasMissAt s es i p → ⊥)
+IsProspect s es i (Lost place) = HasMissAt s es i place × (All (IsMet s es) (deps_of s.plan i) → ⊥)
+IsProspect s es i (Pending place) = (place ≤ length (deps_of s.plan i)) × All (IsMet s es) (take place (deps_of s.plan i)) × HangsAt s es place i × (All (IsMet s es) (deps_of s.plan i) → ⊥) × ((p : ℕ) → HasMissAt s es i p → ⊥)

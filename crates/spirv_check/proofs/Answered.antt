@@ -3,30 +3,32 @@ use Rattle.std.proofs.Common.{ℕ, zero, suc, ◌≡◌, ◌≢◌, ◌+◌, ◌
 use Rattle.std.proofs.lemmas.Bool.Decides.{nat_tests}
 use Rattle.std.proofs.lemmas.List.{length-drop, length-take-le, take-append-drop, get_or-take}
 use Rattle.std.specs.Option.{option_or}
-use Rattle.spirv_check.specs.Modules.{magic, Instruction, count_of, HasHeader, IsFramed, IsUnframed, Splits, is_begin, is_end, begin_fault, end_fault, opened_next, turn_fault, first_turn, shape_of, named_of, closed_of, turns_of, judged_of, judged, seen_in}
+use Rattle.std.specs.List.{count_by, filter_map}
+use Rattle.spirv_check.specs.Modules.{magic, Instruction, count_of, HasHeader, IsFramed, IsUnframed, Splits, is_begin, is_end, begin_fault, end_fault, opened_next, turn_fault, first_turn, opened_after, first_bad_name, entry_at, is_model, shape_of, named_of, closed_of, turns_of, judged}
 use Rattle.spirv_check.specs.Answers.{Answers, short, bad_magic, bad_reserved, bad_length, framed}
 use Rattle.spirv_check.specs.declared.shape.EntryPoint.{EntryPoint}
 use Rattle.spirv_check.specs.declared.shape.Shape.{Shape}
 use Rattle.spirv_check.specs.declared.error.SpirvError.{SpirvError}
 use Rattle.spirv_check.specs.declared.error.SpirvError.TheVariants.{Short, BadMagic, BadReserved, BadLength, MemoryModels, Memory}
 use Rattle.spirv_check.proofs.Framing.{Splits-length}
-use Rattle.driver_rules.specs.Modules.{front_count, is_framed_front, instructions_in, words_behind, body_answer, answer_of}
+use Rattle.spirv_check.proofs.Judging as judging
+use Rattle.spirv_check.specs.Answered.{first_count, begins_framed, instructions_in, words_after, body_answer, answer_of}
 
 -- an answer that fits the words, and isn't want of memory
 pub record IsAnswer (words : List ℕ) (answer : Result Shape SpirvError) : Type 0 where
   pub fits : Answers words answer
   pub told : answer ≢ Err Memory
 
--- ---- the instructions at the front
+-- ---- the instructions that the words begin with
 
-pub is_test : (b : Bool) → (b ≡ true) ⊎ (b ≡ false)
+is_test : (b : Bool) → (b ≡ true) ⊎ (b ≡ false)
 is_test true = inl refl
 is_test false = inr refl
 
-front_yes : (words : List ℕ) → is_framed_front words ≡ true → (0 < front_count words) × (front_count words ≤ length words)
+front_yes : (words : List ℕ) → begins_framed words ≡ true → (0 < first_count words) × (first_count words ≤ length words)
 front_yes words t = grind (arith, nat_tests)
 
-front_no : (words : List ℕ) → is_framed_front words ≡ false → (front_count words ≡ 0) ⊎ (length words < front_count words)
+front_no : (words : List ℕ) → begins_framed words ≡ false → (first_count words ≡ 0) ⊎ (length words < first_count words)
 front_no words t = grind (arith, nat_tests)
 
 part_framed : (words : List ℕ) (count : ℕ) → count ≡ count_of (get_or words 0 0) → 0 < count → count ≤ length words → IsFramed (take count words)
@@ -34,36 +36,36 @@ part_framed words count is some room =
     let size = length-take-le count words room in
     record { some = omega arith; count = ap count_of (get_or-take count words 0 0 some) ∙ (sym is ∙ sym size) }
 
-pub split : (most at : ℕ) (words : List ℕ) → Splits at words (instructions_in most at words) (words_behind most words)
-unfolding Splits instructions_in words_behind
+split : (most at : ℕ) (words : List ℕ) → Splits at words (instructions_in most at words) (words_after most words)
+unfolding Splits instructions_in words_after
 split zero at words = refl
-split (suc most) at words = elim (is_test (is_framed_front words)) [
+split (suc most) at words = elim (is_test (begins_framed words)) [
   | inr fails ↦ rw fails refl
   | inl holds ↦
       let front = front_yes words holds in
-      let count : ℕ = front_count words in
+      let count : ℕ = first_count words in
       let size : length (take count words) ≡ count = length-take-le count words front.1 in
       rw holds (
         drop count words,
         sym (take-append-drop count words),
         part_framed words count refl front.0 front.1,
         refl,
-        subst (λ (n : ℕ). Splits (at + n) (drop count words) (instructions_in most (at + count) (drop count words)) (words_behind most (drop count words))) (sym size) (split most (at + count) (drop count words)),
+        subst (λ (n : ℕ). Splits (at + n) (drop count words) (instructions_in most (at + count) (drop count words)) (words_after most (drop count words))) (sym size) (split most (at + count) (drop count words)),
       )
 ]
 
-pub stops : (most : ℕ) (words : List ℕ) → length words ≤ most → is_framed_front (words_behind most words) ≡ false
-unfolding words_behind
+stops : (most : ℕ) (words : List ℕ) → length words ≤ most → begins_framed (words_after most words) ≡ false
+unfolding words_after
 stops zero words few = front_short words (omega arith)
   where
-    front_short : (ws : List ℕ) → length ws ≡ 0 → is_framed_front ws ≡ false
+    front_short : (ws : List ℕ) → length ws ≡ 0 → begins_framed ws ≡ false
     front_short ws none = grind (arith, nat_tests)
-stops (suc most) words few = elim (is_test (is_framed_front words)) [
+stops (suc most) words few = elim (is_test (begins_framed words)) [
   | inr fails ↦ rw fails fails
   | inl holds ↦
       let front = front_yes words holds in
-      let left = length-drop (front_count words) words in
-      rw holds (stops most (drop (front_count words) words) (omega arith))
+      let left = length-drop (first_count words) words in
+      rw holds (stops most (drop (first_count words) words) (omega arith))
 ]
 
 -- ---- what framed instructions answer isn't want of memory
@@ -115,19 +117,19 @@ fault_told None opened bad entries told = closed_told opened bad entries
 fault_told (Some fault) opened bad entries told = λ e. told cc
 
 judged_told : (is : List Instruction) → judged is ≢ Err Memory
-unfolding judged judged_of seen_in
-judged_told is = by_count ((seen_in is).models == 1)
+unfolding judged
+judged_told is = by_count (count_by is_model is == 1)
   where
-    by_count : (b : Bool) → cond b (turns_of (seen_in is).turn (seen_in is).opened (seen_in is).bad_name (seen_in is).entries) (Err (MemoryModels (seen_in is).models)) ≢ Err Memory
-    by_count true = fault_told (seen_in is).turn (seen_in is).opened (seen_in is).bad_name (seen_in is).entries (turns_told None is)
+    by_count : (b : Bool) → cond b (turns_of (first_turn None is) (opened_after None is) (first_bad_name is) (filter_map entry_at is)) (Err (MemoryModels (count_by is_model is))) ≢ Err Memory
+    by_count true = fault_told (first_turn None is) (opened_after None is) (first_bad_name is) (filter_map entry_at is) (turns_told None is)
     by_count false = λ e. cc
 
 -- ---- the answer
 
-unframed : (rest : List ℕ) → 0 < length rest → is_framed_front rest ≡ false → IsUnframed rest
+unframed : (rest : List ℕ) → 0 < length rest → begins_framed rest ≡ false → IsUnframed rest
 unframed rest some fails = record { some = some; count = front_no rest fails }
 
-body : (words rest : List ℕ) → HasHeader words → Splits 5 (drop 5 words) (instructions_in (length words) 5 (drop 5 words)) rest → is_framed_front rest ≡ false → IsAnswer words (body_answer words rest)
+body : (words rest : List ℕ) → HasHeader words → Splits 5 (drop 5 words) (instructions_in (length words) 5 (drop 5 words)) rest → begins_framed rest ≡ false → IsAnswer words (body_answer words rest)
 unfolding body_answer
 body words [] header parts fails = record {
   fits = framed (record { instructions = instructions_in (length words) 5 (drop 5 words); whole = record { header = header; split = parts }; is = refl });
@@ -155,13 +157,13 @@ answered words = elim (is_test (nat_lt (length words) 5)) [
       | inl reserved ↦
           let header : HasHeader words = record { long = grind (arith, nat_tests); first = grind (arith, nat_tests); reserved = grind (arith, nat_tests) } in
           let left = length-drop 5 words in
-          rw (long, first, reserved) (body words (words_behind (length words) (drop 5 words)) header (split (length words) 5 (drop 5 words)) (stops (length words) (drop 5 words) (omega arith)))
+          rw (long, first, reserved) (body words (words_after (length words) (drop 5 words)) header (split (length words) 5 (drop 5 words)) (stops (length words) (drop 5 words) (omega arith)))
     ]
   ]
 ]
 
--- what a check answers is the answer, unless it is want of memory
-pub told_answer : (words : List ℕ) (result : Result Shape SpirvError) → ((other : Result Shape SpirvError) → other ≢ Err Memory → result ≢ Err Memory → Answers words other → result ≡ other) → result ≢ Err Memory → result ≡ answer_of words
-told_answer words result only told =
+-- no other answer fits, but for want of memory
+pub one_answer : (words : List ℕ) (answer : Result Shape SpirvError) → answer ≢ Err Memory → Answers words answer → answer ≡ answer_of words
+one_answer words answer told fits =
     let known = answered words in
-    only (answer_of words) known.told told known.fits
+    judging.one_answer words answer (answer_of words) told known.told fits known.fits

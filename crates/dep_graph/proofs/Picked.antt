@@ -1,9 +1,9 @@
 -- The entry of an item, found by its place.
-use Rattle.std.proofs.Common.{◌≡◌, ℕ, zero, suc, ◌+◌, ◌<◌, Bool, true, false, List, [], ◌∷◌, length, map, get_or, Some, refl, sym, ap, ◌∙◌, subst, arith}
-use Rattle.std.specs.Prelude.{slice_get}
+use Rattle.std.proofs.Common.{◌≡◌, ℕ, zero, suc, ◌+◌, ◌<◌, ⊎_elim, Bool, true, false, List, [], ◌∷◌, length, map, get_or, Some, refl, sym, ap, ◌∙◌, subst, arith}
+use Rattle.std.specs.Prelude.{slice_get, option_and_then}
 use Rattle.std.specs.List.{AllZip, items_where_true, range_with_len}
 use Rattle.std.proofs.lemmas.List.{length-map}
-use Rattle.std.proofs.lemmas.Option.{slice_get_read}
+use Rattle.std.proofs.lemmas.Option.{slice_get-get_or, slice_get_cases}
 use Rattle.foz_entry.specs.declared.cut.Entry.{Entry}
 use Rattle.dep_graph.specs.declared.class.Class.{Class}
 use Rattle.dep_graph.specs.Classes.{is_item}
@@ -11,7 +11,7 @@ use Rattle.dep_graph.specs.Items.{item_places, item_entries, item_keys, DependsA
 use Rattle.dep_graph.specs.declared.graph.Graph.{Graph}
 use Rattle.dep_graph.proofs.Surveyed.{places_count, keys_count}
 use Rattle.replay_core.specs.Plans.{items_of}
-use Rattle.check_run.specs.Checks.{IsGraphOf}
+use Rattle.dep_graph.specs.Graphs.{IsPlanOf, entry_at}
 
 -- the element at this place is the one that is picked as this number
 pub record IsPickedAt {X : Type 0} (bs : List Bool) (xs : List X) (number place : ℕ) : Type 0 where
@@ -51,33 +51,36 @@ unfolding item_keys
 keys_long entries classes = length-map (item_entries entries classes) (λ (entry : Entry). entry.head.key)
 
 -- an item's entry stands at its place
-entry_at : (entries : List Entry) (classes : List Class) (number place : ℕ) → length classes ≡ length entries → slice_get (item_places classes) number ≡ Some place
+stands_at : (entries : List Entry) (classes : List Class) (number place : ℕ) → length classes ≡ length entries → slice_get (item_places classes) number ≡ Some place
     → (place < length entries) × (slice_get (item_entries entries classes) number ≡ slice_get entries place)
 unfolding item_places item_entries
-entry_at entries classes number place long found =
+stands_at entries classes number place long found =
     let flags = length-map classes is_item in
     let got = picked_at (map is_item classes) entries 0 number place (flags ∙ long) (subst (λ (n : ℕ). slice_get (items_where_true (map is_item classes) (range_with_len 0 n)) number ≡ Some place) (sym flags) found) in
     let same : got.0 ≡ place = omega (arith, got.1) in
     (subst (λ (n : ℕ). n < length entries) same got.2.inside, got.2.same ∙ ap (slice_get entries) same)
 
 -- each item of the plan has a place
-pub number_inside : (entries : List Entry) (graph : Graph) (number : ℕ) → IsGraphOf entries graph → number < items_of graph.plan → number < length graph.items
+number_inside : (entries : List Entry) (graph : Graph) (number : ℕ) → IsPlanOf entries graph → number < items_of graph.plan → number < length graph.items
 number_inside entries graph number is below =
     let places = ap length is.items ∙ places_count graph.classes in
-    let keys = keys_count entries graph.classes is.classes.long in
+    let keys = keys_count entries graph.classes is.long in
     let rows = pairs_long (DependsAs (item_keys entries graph.classes)) (item_entries entries graph.classes) graph.plan.deps is.deps in
     let named = keys_long entries graph.classes in
     omega (arith, places, keys, rows, named)
 
-module _ (entries : List Entry) (graph : Graph) (item place : ℕ) (is : IsGraphOf entries graph) (below : item < length graph.items) (same : place ≡ get_or graph.items item place) where
-  at_place : (place < length entries) × (slice_get (item_entries entries graph.classes) item ≡ slice_get entries place)
-  at_place =
-      entry_at entries graph.classes item place is.classes.long
-      (subst (λ (places : List ℕ). slice_get places item ≡ Some place) is.items (slice_get_read graph.items (length graph.items) item place refl below same))
+-- the item's entry, which stands at the item's place
+pub record IsEntryOf (entries : List Entry) (graph : Graph) (item : ℕ) : Type 0 where
+  pub entry : Entry
+  pub picked : slice_get (item_entries entries graph.classes) item ≡ Some entry
+  pub placed : entry_at entries graph item ≡ Some entry
 
-  pub place_inside : place < length entries
-  place_inside = at_place.0
-
-  -- what stands at an item's place is the item's entry
-  pub entry_stands : (entry : Entry) → entry ≡ get_or entries place entry → slice_get (item_entries entries graph.classes) item ≡ Some entry
-  entry_stands entry e = at_place.1 ∙ slice_get_read entries (length entries) place entry refl at_place.0 e
+pub entry_of_item : (entries : List Entry) (graph : Graph) (item : ℕ) → IsPlanOf entries graph → item < items_of graph.plan → IsEntryOf entries graph item
+entry_of_item entries graph item is below =
+    let place : ℕ = get_or graph.items item 0 in
+    let at_place : slice_get graph.items item ≡ Some place = slice_get-get_or graph.items item 0 (number_inside entries graph item is below) in
+    let found = stands_at entries graph.classes item place is.long (subst (λ (places : List ℕ). slice_get places item ≡ Some place) is.items at_place) in
+    ⊎_elim
+    (λ there. record { entry = there.0; picked = found.1 ∙ there.2; placed = ap (option_and_then (slice_get entries)) at_place ∙ there.2 })
+    (λ past. absurd (let a = found.0 in let b = past.0 in omega (arith, a, b)))
+    (slice_get_cases entries place).1
