@@ -9,8 +9,9 @@ use Rattle.worker_node.specs.Steps.{IsServedBehind}
 use Rattle.worker_node.specs.declared.served.Served.{Served}
 use Rattle.worker_node.specs.declared.served.Served.TheVariants.{Quit, InputEnded, ReadFault, WriteFault, BadFrame, Memory}
 use Rattle.worker_node.proofs.Runs.{hello_end}
-use Rattle.foz_tool.specs.Streams.{Streams}
-use Rattle.foz_tool.specs.WorkerRun.{HasFault, Serves, status_of_served}
+use Rattle.foz_base.specs.Ending.{HasCauses}
+use Rattle.foz_base.specs.Outside.{Outside, Tells}
+use Rattle.foz_tool.specs.WorkerRun.{HasFault, IsSession, Serves, status_of_served}
 
 -- ---- the ends of the command
 
@@ -45,22 +46,47 @@ is_write_fault ReadFault status is e = absurd (omega (arith, is, e))
 is_write_fault WriteFault status is e = refl
 is_write_fault Memory status is e = absurd (omega (arith, is, e))
 
+pub serve_causes : (read write : Type 0) (outcome : Served) (status : ℕ) → status ≡ status_of_served outcome → (outcome ≡ ReadFault → read) → (outcome ≡ WriteFault → write) → HasCauses read write ⊥ status
+serve_causes read write outcome status is unread unwritten = record {
+  no_usage = λ e. never outcome status 2 is e (inl refl);
+  read = λ e. unread (is_read_fault outcome status is e);
+  write = λ e. unwritten (is_write_fault outcome status is e);
+  disk = λ e. never outcome status 5 is e (inr refl);
+}
+  where
+    never : (outcome : Served) (status n : ℕ) → status ≡ status_of_served outcome → status ≡ n → (n ≡ 2) ⊎ (n ≡ 5) → ⊥
+    never Quit status n is e (inl two) = absurd (omega arith)
+    never Quit status n is e (inr five) = absurd (omega arith)
+    never (InputEnded left) status n is e (inl two) = absurd (omega arith)
+    never (InputEnded left) status n is e (inr five) = absurd (omega arith)
+    never (BadFrame at) status n is e (inl two) = absurd (omega arith)
+    never (BadFrame at) status n is e (inr five) = absurd (omega arith)
+    never ReadFault status n is e (inl two) = absurd (omega arith)
+    never ReadFault status n is e (inr five) = absurd (omega arith)
+    never WriteFault status n is e (inl two) = absurd (omega arith)
+    never WriteFault status n is e (inr five) = absurd (omega arith)
+    never Memory status n is e (inl two) = absurd (omega arith)
+    never Memory status n is e (inr five) = absurd (omega arith)
+
 module _ {M : Type 0} (creates : M → Key → State → ℕ → M → Type 0) where
-  -- nothing was taken and nothing written, for want of memory
-  pub unserved : (streams : Streams) (driver : M) → Serves creates streams streams driver driver 7
-  unserved streams driver = record {
+  -- nothing was taken and nothing written, since memory ran out
+  unserved_session : (outside : Outside M) → IsSession creates outside outside 7
+  unserved_session outside = record {
     outcome = Memory;
     taken = [];
     parts = refl;
-    session = record { out = []; is = sym (append-nil streams.written); served = hello_end creates driver streams.written [] 0 };
+    session = record { out = []; is = sym (append-nil outside.written); served = hello_end creates outside.driver outside.written [] 0 };
     comes = λ h. absurd h;
     fault = tt;
     answered = refl;
   }
 
+  pub unserved : (tells : Tells) (outside : Outside M) → Serves creates tells outside outside 7
+  unserved tells outside = record { session = λ input output. unserved_session outside; ends = λ input. record { outcome = Memory; comes = λ h. absurd h; answered = refl } }
+
   -- ---- the statuses
 
-  module _ (before after : Streams) (driver driver_after : M) (taken : List ℕ) where
+  module _ (before after : Outside M) (taken : List ℕ) where
     pub none_other : (outcome : Served) (status : ℕ) → status ≡ status_of_served outcome → (status ≤ 1) ⊎ (status ≡ 3) ⊎ (status ≡ 4) ⊎ (status ≡ 7)
     none_other Quit status is = inl (omega (arith, is))
     none_other (InputEnded left) status is = inl (omega (arith, is))
@@ -76,8 +102,8 @@ module _ {M : Type 0} (creates : M → Key → State → ℕ → M → Type 0) w
     not_both status n (inr three) e (inl is) = absurd (omega (arith, three, e, is))
     not_both status n (inr three) e (inr is) = absurd (omega (arith, three, e, is))
 
-    pub session : (outcome : Served) (status : ℕ) → IsServedBehind creates driver before.written taken after.written driver_after outcome → status ≡ status_of_served outcome → (status ≤ 1) ⊎ (status ≡ 3)
-        → (out : List ℕ) × (after.written ≡ before.written ++ out) × IsWholeSession creates driver taken out driver_after
+    pub session : (outcome : Served) (status : ℕ) → IsServedBehind creates before.driver before.written taken after.written after.driver outcome → status ≡ status_of_served outcome → (status ≤ 1) ⊎ (status ≡ 3)
+        → (out : List ℕ) × (after.written ≡ before.written ++ out) × IsWholeSession creates before.driver taken out after.driver
     session Quit status served is so = (served.out, served.is, served.served)
     session (InputEnded left) status served is so = (served.out, served.is, served.served)
     session (BadFrame at) status served is so = (served.out, served.is, served.served)
@@ -85,8 +111,8 @@ module _ {M : Type 0} (creates : M → Key → State → ℕ → M → Type 0) w
     session WriteFault status served is so = absurd (not_both status 4 so is (inl refl))
     session Memory status served is so = absurd (not_both status 7 so is (inr refl))
 
-    pub cut_short : (outcome : Served) (status : ℕ) → IsServedBehind creates driver before.written taken after.written driver_after outcome → status ≡ status_of_served outcome → (status ≡ 4) ⊎ (status ≡ 7)
-        → (out : List ℕ) × (after.written ≡ before.written ++ out) × IsCutShort creates driver taken out driver_after
+    pub cut_short : (outcome : Served) (status : ℕ) → IsServedBehind creates before.driver before.written taken after.written after.driver outcome → status ≡ status_of_served outcome → (status ≡ 4) ⊎ (status ≡ 7)
+        → (out : List ℕ) × (after.written ≡ before.written ++ out) × IsCutShort creates before.driver taken out after.driver
     cut_short Quit status served is (inl e) = absurd (omega (arith, is, e))
     cut_short Quit status served is (inr e) = absurd (omega (arith, is, e))
     cut_short (InputEnded left) status served is (inl e) = absurd (omega (arith, is, e))

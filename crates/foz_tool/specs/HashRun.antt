@@ -1,46 +1,17 @@
--- How the command `hash` ends.
-use Rattle.std.specs.Prelude.{◌≡◌, ℕ, ◌<◌, Bool, ◌++◌, length, take, Result, Ok, Err}
+-- The command `hash`.
+use Rattle.std.specs.Prelude.{◌≡◌, ℕ, List, if◌then◌else◌}
 use Rattle.disk_model.specs.Faults.{Rose}
 use Rattle.foz_text.specs.HashText.{hash_text, is_readable}
-use Rattle.foz_tool.specs.declared.stop.Stop.{Stop}
-use Rattle.foz_tool.specs.declared.stop.Stop.TheVariants.{Usage, ReadFault, WriteFault, DiskFault, Absent, Archive, Memory, Full, TooMany, InputTooLong}
-use Rattle.foz_tool.specs.InputRead.{IsInputRead, StopsInput}
-use Rattle.foz_tool.specs.Status.{status_of}
-use Rattle.foz_tool.specs.Streams.{Streams}
+use Rattle.foz_base.specs.Ending.{Ended}
+use Rattle.foz_base.specs.InputRead.{IsInputRead, StopsInput}
+use Rattle.foz_base.specs.Outside.{Outside, Tells}
 
--- the whole text of the input stands on the output
-pub record IsHashed (before after : Streams) (readable : Bool) : Type 0 where
-  pub input : IsInputRead before.input after.input before.input
-  pub written : after.written ≡ before.written ++ hash_text before.input
-  pub is_readable : readable ≡ is_readable before.input
+-- the text of the whole input, of which none is left; 0 says that no line is refused
+pub record IsHashTold (before after : List ℕ) (text : List ℕ) (status : ℕ) : Type 0 where
+  pub input : IsInputRead before after before
+  pub text_is : text ≡ hash_text before
+  pub status_is : status ≡ (if is_readable before then 0 else 1)
 
--- a front of the text stands on the output, which failed
-pub record IsHashCutShort (before after : Streams) : Type 0 where
-  pub input : IsInputRead before.input after.input before.input
-  pub count : ℕ
-  pub written : after.written ≡ before.written ++ take count (hash_text before.input)
-  pub fault : Rose before.output_faults after.output_faults
-
--- the input could not be read, or memory ran out, and nothing was written
-pub record IsUnhashed (before after : Streams) (stop : Stop) : Type 0 where
-  pub stopped : StopsInput before.input (Rose before.input_faults after.input_faults) stop
-  pub written : after.written ≡ before.written
-
-abbrev pub HashEnds : Streams → Streams → Result Bool Stop → Type 0
-HashEnds before after (Ok readable) = IsHashed before after readable
-HashEnds before after (Err WriteFault) = IsHashCutShort before after
-HashEnds before after (Err ReadFault) = IsUnhashed before after ReadFault
-HashEnds before after (Err InputTooLong) = IsUnhashed before after InputTooLong
-HashEnds before after (Err Memory) = IsUnhashed before after Memory
-HashEnds before after (Err Usage) = ⊥
-HashEnds before after (Err DiskFault) = ⊥
-HashEnds before after (Err Absent) = ⊥
-HashEnds before after (Err (Archive error)) = ⊥
-HashEnds before after (Err (Full end need)) = ⊥
-HashEnds before after (Err (TooMany count)) = ⊥
-
--- `hash` ended so, and answered the status of that
-pub record Hashes (before after : Streams) (status : ℕ) : Type 0 where
-  pub outcome : Result Bool Stop
-  pub ends : HashEnds before after outcome
-  pub answered : status ≡ status_of outcome
+-- `hash` ended with this status
+pub record Hashes (tells : Tells) {M : Type 0} (before after : Outside M) (status : ℕ) : Type 0 where
+  pub ended : tells.input → tells.output → Ended (IsHashTold before.input after.input) (StopsInput before.input (Rose before.input_faults after.input_faults)) before after status

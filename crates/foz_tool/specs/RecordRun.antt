@@ -1,24 +1,24 @@
--- How the command `record` ends. It is given the words of why a line can't be read, and how lines are read of an input.
-use Rattle.std.specs.Prelude.{◌≡◌, ℕ, ◌<◌, Bool, true, false, if◌then◌else◌, List, [], ◌++◌, length, take, Result, Ok, Err}
+-- The command `record`. It is given the words of why a line can't be read, and how lines are read of an input.
+use Rattle.std.specs.Prelude.{◌≡◌, ℕ, Bool, true, false, if◌then◌else◌, List}
 use Rattle.std.specs.List.{list_any}
 use Rattle.disk_model.specs.Faults.{Rose}
+use Rattle.foz_entry.specs.declared.cut.Entry.{Entry}
+use Rattle.foz_archive.specs.Reading.{Holds}
 use Rattle.record_words.specs.declared.note.RecordReply.{RecordReply}
 use Rattle.record_words.specs.declared.note.RecordReply.TheVariants as replies
 use Rattle.record_words.specs.declared.answered.Answered.{Answered}
 use Rattle.record_words.specs.declared.answered.LineAnswer.{LineAnswer}
 use Rattle.record_words.specs.declared.answered.LineAnswer.TheVariants.{Refused, Replied}
-use Rattle.foz_entry.specs.declared.cut.Entry.{Entry}
 use Rattle.record_words.specs.Recorded.{Line, Answer, Recorded}
 use Rattle.record_words.specs.Answered.{answered_from}
-use Rattle.record_lines.specs.declared.recording.Report.{Report}
+use Rattle.record_words.specs.Story.{AreApart}
+use Rattle.record_lines.specs.Capture.{CaptureLeaves}
 use Rattle.foz_text.specs.RecordText.{record_text, is_refused}
-use Rattle.foz_tool.specs.declared.stop.Stop.{Stop}
-use Rattle.foz_tool.specs.declared.stop.Stop.TheVariants as stop
-use Rattle.foz_tool.specs.FileCapture.{IsCapturedIn, FileCaptureLeaves}
-use Rattle.foz_tool.specs.InputRead.{IsInputRead, input_limit}
-use Rattle.foz_tool.specs.PutRun.{IsUntouched, IsPutRefused, IsPutFailed, IsArchiveFile}
-use Rattle.foz_tool.specs.Status.{status_of_stop}
-use Rattle.foz_tool.specs.View.{View}
+use Rattle.foz_base.specs.Ending.{Ended}
+use Rattle.foz_base.specs.FileWork.{bytes_of, IsArchiveFile, FileLeaves}
+use Rattle.foz_base.specs.Outside.{File, Outside, Tells, FileFaultRose, IsSettledFile}
+use Rattle.foz_base.specs.InputRead.{IsInputRead}
+use Rattle.foz_base.specs.Recording.{IsFlushed, StopsRecording}
 
 abbrev pub says_full : RecordReply → Bool
 says_full (replies.Full end need) = true
@@ -38,68 +38,29 @@ module _ {Cause : Type 0} where
   abbrev pub status_of_answers : List (Answered Cause) → ℕ
   status_of_answers answers = if list_any is_full answers then 8 else (if list_any is_refused answers then 1 else 0)
 
-  abbrev pub status_of_record : Result (Report Cause) Stop → ℕ
-  status_of_record (Ok report) = status_of_answers report.answers
-  status_of_record (Err stop) = status_of_stop stop
-
-  -- what a crash may leave of the file, wherever `record` stops
-  abbrev pub RecordRunLeaves : (List ℕ → List (Line Cause)) → View → View → Type 0
-  RecordRunLeaves lines_of before after = FileCaptureLeaves before.file before.history after.history (lines_of before.input)
+  -- the text of lines with these answers, after which the archive has so many entries
+  abbrev pub text_of_lines : (Cause → List ℕ) → List (Line Cause) → List (Answer Cause) → ℕ → List ℕ
+  text_of_lines cause_text lines answers entries = record_text cause_text (answered_from 1 lines answers) entries
 
   module _ (cause_text : Cause → List ℕ) (lines_of : List ℕ → List (Line Cause)) where
-    abbrev pub text_of_report : Report Cause → List ℕ
-    text_of_report report = record_text cause_text report.answers report.entries
-
-    -- the lines of all of the input were recorded and flushed, with this report
-    pub record AreRecordedIn (before after : View) (report : Report Cause) : Type 0 where
-      pub input : IsInputRead before.input after.input before.input
-      pub file : IsCapturedIn before.file after.file (lines_of before.input) report
-
-    -- the report stands on the output
-    pub record IsReported (before after : View) (report : Report Cause) : Type 0 where
-      pub recorded : AreRecordedIn before after report
-      pub written : after.written ≡ before.written ++ text_of_report report
-
-    -- a front of the report stands on the output, which failed
-    pub record IsReportCutShort (before after : View) : Type 0 where
-      pub report : Report Cause
-      pub recorded : AreRecordedIn before after report
-      pub count : ℕ
-      pub written : after.written ≡ before.written ++ take count (text_of_report report)
-      pub fault : Rose before.output_faults after.output_faults
-
-    abbrev pub RecordRunEnds : View → View → Result (Report Cause) Stop → Type 0
-    RecordRunEnds before after (Ok report) = IsReported before after report
-    RecordRunEnds before after (Err stop.WriteFault) = IsReportCutShort before after
-    RecordRunEnds before after (Err stop.InputTooLong) = (input_limit < length before.input) × IsUntouched before after
-    RecordRunEnds before after (Err stop.ReadFault) = Rose before.input_faults after.input_faults × IsUntouched before after
-    RecordRunEnds before after (Err stop.DiskFault) = IsPutFailed before after
-    RecordRunEnds before after (Err (stop.Archive error)) = IsPutRefused before after error
-    RecordRunEnds before after (Err stop.Memory) = after.written ≡ before.written
-    RecordRunEnds before after (Err stop.Absent) = ⊥
-    RecordRunEnds before after (Err stop.Usage) = ⊥
-    RecordRunEnds before after (Err (stop.Full end need)) = ⊥
-    RecordRunEnds before after (Err (stop.TooMany count)) = ⊥
-
-    -- `record` ended so, and answered the status of that
-    pub record Records (before after : View) (status : ℕ) : Type 0 where
-      pub outcome : Result (Report Cause) Stop
-      pub ends : RecordRunEnds before after outcome
-      pub answered : status ≡ status_of_record outcome
-
-    -- the text of lines with these answers, after which the archive has so many entries
-    abbrev pub text_of_lines : List (Line Cause) → List (Answer Cause) → ℕ → List ℕ
-    text_of_lines lines answers entries = record_text cause_text (answered_from 1 lines answers) entries
-
-    -- The lines of all of the input were recorded by one thread behind these entries, this text tells it, and the file is
-    -- an archive of all.
-    pub record IsRecordedRun (before after : View) (entries : List Entry) : Type 0 where
+    -- The lines of all of the input were recorded by one thread behind the entries that the file held, and flushed. Each key
+    -- was added once, and none that was held.
+    pub record IsRecordTold (input rest : List ℕ) (before after : File) (text : List ℕ) (status : ℕ) : Type 0 where
+      pub read : IsInputRead input rest input
+      pub entries : List Entry
+      pub held : Holds (bytes_of before) entries
       pub later : List Entry
-      pub text : List ℕ
-      pub recorded : Recorded text_of_lines entries (lines_of before.input) 1 later text
-      pub file : IsArchiveFile after.file later
-      pub none_left : after.input ≡ []
+      pub recorded : Recorded (text_of_lines cause_text) entries (lines_of input) 1 later text
+      pub apart : AreApart entries later
+      pub archive : IsArchiveFile after later
+      pub status_is : status ≡ status_of_answers (answered_from 1 (lines_of input) recorded.answers)
 
-    -- the status that goes with the answers of such a run
-    abbrev pub status_of_run : (before after : View) (entries : List Entry) → IsRecordedRun before after entries → ℕ
-    status_of_run before after entries run = status_of_answers (answered_from 1 (lines_of before.input) run.recorded.answers)
+    -- `record` of the input into this file ended with this status; a crash leaves the entries that the file held, and some of
+    -- those that a prefix of the lines added, in order
+    pub record Records (tells : Tells) {M : Type 0} (before after : Outside M) (file : List ℕ) (status : ℕ) : Type 0 where
+      pub ended : tells.input → tells.output → tells.content → let old = before.files.content file in let new = after.files.content file in
+          Ended (IsRecordTold before.input after.input old new)
+          (StopsRecording before.input after.input (Rose before.input_faults after.input_faults) old new (FileFaultRose before.files after.files file)) before after status
+      pub leaves : tells.input → tells.images
+          → FileLeaves (λ content old new. CaptureLeaves content old new (lines_of before.input)) (before.files.content file) (before.files.history file) (after.files.history file)
+      pub durable : tells.images → IsFlushed status → IsSettledFile (after.files.history file)

@@ -1,82 +1,70 @@
 //! The command `check`.
-ghost use Rattle.std.specs.Prelude.{◌≡◌, ◌≢◌, ◌≤◌, ◌⊎◌, Bool, Result, length, All, IfOk, IfErr};
+ghost use Rattle.std.specs.Prelude.{◌≡◌, ◌≢◌, ◌≤◌, ◌⊎◌, length, All, IfOk, IfErr};
 ghost use Rattle.disk_model.specs.Faults.{Rose};
 ghost use Rattle.disk_model.specs.Place.{out};
-ghost use Rattle.record_words.specs.Entries.{most_entries};
+ghost use Rattle.foz_entry.specs.Limits.{count_limit};
 ghost use Rattle.dep_graph.specs.Items.{HasItsSize};
-ghost use Rattle.foz_tool.specs.View.{KeepsFiles, PutsBack};
-ghost use Rattle.foz_tool.specs.CheckRun.{IsReplayTold, CheckEnds, Checks};
+ghost use Rattle.foz_tool.specs.CheckRun.{IsReplayTold, IsCheckTold, Checks};
+ghost use Rattle.foz_base.specs.Ending.{Makes, Causes, HasCauses};
+ghost use Rattle.foz_base.specs.FileRead.{StopsReading};
+ghost use Rattle.foz_base.specs.Outside.{file_of, files_of, FileFaultRose, IsFileOnlyRead, WorksOn};
 
-use crate::complaint::complain;
-use crate::files::read_file;
 use crate::host::{Host, Seen};
-use crate::stop::{Stop, status_of};
 use check_run::check_entries;
-use disk_model::{Failed, Shelf, Sink, Source, write_all};
+use disk_model::{Shelf, Sink, Source};
 use driver_check::Driver;
+use foz_base::{Printout, Stop, finish, read_file};
 use foz_entry::Entry;
-use foz_words::{Name, NoMemory};
-use replay_text::{Overall, push_replay};
+use foz_words::{Name, NoMemory, Row};
+use replay_text::{Overall, decided_is_answered, push_replay};
 use std::alloc::Global;
 
-/// The text of a replay, and whether each line of an entry says `done` or `kept`.
-#[derive(Drop)]
-struct Told {
-    text: Vec<u8>,
-    flawless: bool,
-}
-
-/// Replays the items of entries, and tells how each entry came out.
+/// Replays the items of entries. Gives the text that tells how each entry came out, with 0 where each is well, else 1.
 fn replay_told<R: Driver>(
     alloc: Global,
     entries: &[Entry],
     driver: &mut R,
-) -> Result<Told, NoMemory>
-    requires few { length entries.now ≤ most_entries }
+) -> Result<Printout, NoMemory>
+    requires few { length entries.now ≤ count_limit }
     requires sized { All HasItsSize entries.now }
-    ensures { IfOk result (λ told. IsReplayTold R.creates (R.meaning driver.old) entries.now (R.meaning driver.new) told.text.items told.flawless) }
+    ensures { IfOk result (λ told. IsReplayTold R.creates (R.meaning driver.old) entries.now (R.meaning driver.new) told.text told.status) }
 {
+    decided_is_answered();
     let checked = check_entries(alloc, entries, driver)?;
     let verdicts = checked.core.verdicts();
     let events = checked.core.events();
     let mut text = Vec::new(alloc);
     let went = push_replay(alloc, &mut text, entries, &checked.graph, verdicts, events)?;
+    let text = Row::from_vec(text);
     match went {
-        Overall::Flawless => Ok(Told {
-            text,
-            flawless: true,
-        }),
-        Overall::Flawed => Ok(Told {
-            text,
-            flawless: false,
-        }),
+        Overall::Flawless => Ok(Printout { text, status: 0 }),
+        Overall::Flawed => Ok(Printout { text, status: 1 }),
         // The replay in this process decides each item.
         Overall::Unanswered => unreachable!(),
     }
 }
 
-/// Prints the text of the replay of a file, and says whether it is flawless.
-fn check<I: Source, O: Sink, F: Shelf, R: Driver>(
+/// Replays the items of a file, and tells how each entry came out.
+fn check<F: Shelf, R: Driver>(
     alloc: Global,
-    host: &mut Host<I, O, F, R>,
-    file: &str,
-) -> Result<bool, Stop>
-    requires here { F.tells → F.places host.old.files file.now ≢ out }
+    files: &mut F,
+    driver: &mut R,
+    name: &str,
+) -> Result<Printout, Stop>
+    requires here { F.tells → F.places files.old name.now ≢ out }
 
-    ensures ends { F.tells → F.Held.tells_content → O.tells → let view = ⟦<Host<I, O, F, R> as Seen>⟧.view in
-        CheckEnds R.creates (view host.old file.now) (view host.new file.now) (R.meaning host.old.driver) (R.meaning host.new.driver) result }
-    ensures back { F.tells → PutsBack (F.places host.old.files) (F.places host.new.files) }
-    ensures kept { F.tells → F.Held.tells_content → KeepsFiles F.Held.content (F.places host.old.files) (F.places host.new.files) file.now }
-    ensures write_fault { result ≡ Err Stop.WriteFault → Rose (O.faults host.old.output) (O.faults host.new.output) }
-    ensures input { host.new.input ≡ host.old.input }
-    ensures driver { IfErr result (λ stop. stop ≢ Stop.Memory → stop ≢ Stop.WriteFault → host.new.driver ≡ host.old.driver) }
+    ensures makes { F.tells → F.Held.tells_content → let seen = files_of F.Held.content F.Held.history F.Held.faults in let file = file_of F.Held.content (F.places files.old name.now) in
+        Makes (IsCheckTold R.creates file (R.meaning driver.old) (R.meaning driver.new)) (StopsReading file (FileFaultRose (seen (F.places files.old) (F.faults files.old)) (seen (F.places files.new) (F.faults files.new)) name.now)) result }
+    ensures only_read { F.tells → F.Held.tells_content → let seen = files_of F.Held.content F.Held.history F.Held.faults in
+        IsFileOnlyRead F.Held.tells_images (seen (F.places files.old) (F.faults files.old)) (seen (F.places files.new) (F.faults files.new)) name.now }
+    ensures works { WorksOn F.tells (F.places files.old) (F.places files.new) name.now }
+    ensures causes { let seen = files_of F.Held.content F.Held.history F.Held.faults in
+        Causes (F.tells → FileFaultRose (seen (F.places files.old) (F.faults files.old)) (seen (F.places files.new) (F.faults files.new)) name.now) ⊥ result }
+    ensures driver { IfErr result (λ stop. stop ≢ Stop.Memory → driver.new ≡ driver.old) }
 {
-    let scanned = read_file(alloc, &mut host.files, file)?;
-    let told = replay_told(alloc, scanned.entries.as_slice(), &mut host.driver)?;
-    match write_all(&mut host.output, &told.text) {
-        Ok(()) => Ok(told.flawless),
-        Err(Failed) => Err(Stop::WriteFault),
-    }
+    let scanned = read_file(alloc, files, name)?;
+    let told = replay_told(alloc, scanned.entries.as_slice(), driver)?;
+    Ok(told)
 }
 
 /// Replays the items of a file in this process, each given to the driver once what it stands on succeeded, and prints how
@@ -88,20 +76,13 @@ pub fn check_cmd<I: Source, O: Sink, F: Shelf, R: Driver>(
 ) -> u8
     requires here { F.tells → F.places host.old.files file ≢ out }
 
-    ensures ends { F.tells → F.Held.tells_content → O.tells → let view = ⟦<Host<I, O, F, R> as Seen>⟧.view in
-        Checks R.creates (view host.old file) (view host.new file) (R.meaning host.old.driver) (R.meaning host.new.driver) result }
-    ensures back { F.tells → PutsBack (F.places host.old.files) (F.places host.new.files) }
-    ensures kept { F.tells → F.Held.tells_content → KeepsFiles F.Held.content (F.places host.old.files) (F.places host.new.files) file }
-    ensures write_fault { result ≡ 4 → Rose (O.faults host.old.output) (O.faults host.new.output) }
+    ensures checks { let seen = ⟦<Host<I, O, F, R> as Seen>⟧ in Checks R.creates seen.tells (seen.outside host.old) (seen.outside host.new) file result }
+    ensures works { WorksOn F.tells (F.places host.old.files) (F.places host.new.files) file }
+    ensures causes { let seen = ⟦<Host<I, O, F, R> as Seen>⟧.outside in
+        HasCauses (F.tells → FileFaultRose (seen host.old).files (seen host.new).files file) (Rose (O.faults host.old.output) (O.faults host.new.output)) ⊥ result }
     ensures input { host.new.input ≡ host.old.input }
     ensures driver { (result ≡ 3) ⊎ (result ≡ 6) → host.new.driver ≡ host.old.driver }
 {
-    match check(alloc, host, file.as_str()) {
-        Ok(true) => 0,
-        Ok(false) => 1,
-        Err(stop) => {
-            complain(alloc, &mut host.errors, &stop);
-            status_of(&stop)
-        }
-    }
+    let made = check(alloc, &mut host.files, &mut host.driver, file.as_str());
+    finish(alloc, &mut host.output, &mut host.errors, made)
 }

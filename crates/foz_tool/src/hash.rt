@@ -1,35 +1,30 @@
 //! The command `hash`.
 ghost use Rattle.std.specs.Prelude.{◌≡◌};
 ghost use Rattle.disk_model.specs.Faults.{Rose};
-ghost use Rattle.foz_tool.specs.HashRun.{HashEnds, Hashes};
+ghost use Rattle.foz_base.specs.Ending.{Makes, Causes, HasCauses};
+ghost use Rattle.foz_tool.specs.HashRun.{IsHashTold, Hashes};
+ghost use Rattle.foz_base.specs.InputRead.{StopsInput};
 
-use crate::complaint::complain;
 use crate::host::{Host, Seen};
-use crate::input::read_input;
-use crate::stop::{Stop, status_of};
-use disk_model::{Failed, Shelf, Sink, Source, write_all};
+use disk_model::{Shelf, Sink, Source};
 use driver_check::Driver;
+use foz_base::{Printout, Stop, finish, read_input};
 use foz_text::push_hash;
+use foz_words::Row;
 use std::alloc::Global;
 
-/// Prints the text of the capture that the input is, and says whether no line of it is refused.
-fn hash<I: Source, O: Sink, F: Shelf, R: Driver>(
-    alloc: Global,
-    host: &mut Host<I, O, F, R>,
-) -> Result<bool, Stop>
-    ensures ends { I.tells → O.tells → let streams = ⟦<Host<I, O, F, R> as Seen>⟧.streams in HashEnds (streams host.old) (streams host.new) result }
-    ensures files { host.new.files ≡ host.old.files }
-    ensures read_fault { result ≡ Err Stop.ReadFault → Rose (I.faults host.old.input) (I.faults host.new.input) }
-    ensures write_fault { result ≡ Err Stop.WriteFault → Rose (O.faults host.old.output) (O.faults host.new.output) }
-    ensures driver { host.new.driver ≡ host.old.driver }
+/// The text of the capture that an input is, with 0 where no line of it is refused, else 1.
+fn hash<I: Source>(alloc: Global, input: &mut I) -> Result<Printout, Stop>
+    ensures makes { I.tells → Makes (IsHashTold (I.left input.old) (I.left input.new)) (StopsInput (I.left input.old) (Rose (I.faults input.old) (I.faults input.new))) result }
+    ensures causes { Causes (Rose (I.faults input.old) (I.faults input.new)) ⊥ result }
 {
-    let capture = read_input(alloc, &mut host.input)?;
+    let capture = read_input(alloc, input)?;
     let mut text = Vec::new(alloc);
     let readable = push_hash(alloc, &mut text, capture.as_slice())?;
-    match write_all(&mut host.output, &text) {
-        Ok(()) => Ok(readable),
-        Err(Failed) => Err(Stop::WriteFault),
-    }
+    Ok(Printout {
+        text: Row::from_vec(text),
+        status: if readable { 0 } else { 1 },
+    })
 }
 
 /// Prints a line for each line of the capture that the input is: the kind and the hash of its state, or why it is refused.
@@ -38,18 +33,11 @@ pub fn hash_cmd<I: Source, O: Sink, F: Shelf, R: Driver>(
     alloc: Global,
     host: &mut Host<I, O, F, R>,
 ) -> u8
-    ensures ends { I.tells → O.tells → let streams = ⟦<Host<I, O, F, R> as Seen>⟧.streams in Hashes (streams host.old) (streams host.new) result }
+    ensures hashes { let seen = ⟦<Host<I, O, F, R> as Seen>⟧ in Hashes seen.tells (seen.outside host.old) (seen.outside host.new) result }
+    ensures causes { HasCauses (Rose (I.faults host.old.input) (I.faults host.new.input)) (Rose (O.faults host.old.output) (O.faults host.new.output)) ⊥ result }
     ensures files { host.new.files ≡ host.old.files }
-    ensures read_fault { result ≡ 3 → Rose (I.faults host.old.input) (I.faults host.new.input) }
-    ensures write_fault { result ≡ 4 → Rose (O.faults host.old.output) (O.faults host.new.output) }
     ensures driver { host.new.driver ≡ host.old.driver }
 {
-    match hash(alloc, host) {
-        Ok(true) => 0,
-        Ok(false) => 1,
-        Err(stop) => {
-            complain(alloc, &mut host.errors, &stop);
-            status_of(&stop)
-        }
-    }
+    let made = hash(alloc, &mut host.input);
+    finish(alloc, &mut host.output, &mut host.errors, made)
 }

@@ -1,9 +1,8 @@
 //! The outside of the program.
 ghost use Rattle.std.specs.Prelude.{ℕ, List};
-ghost use Rattle.foz_tool.specs.Streams.{Streams};
-ghost use Rattle.foz_tool.specs.View.{View, file_of, faults_of, history_of};
+ghost use Rattle.foz_base.specs.Outside.{Outside, Tells, files_of};
 
-use disk_model::{Shelf, Sink, Source};
+use disk_model::{Disk, Shelf, Sink, Source};
 use driver_check::Driver;
 
 /// What the program reads and writes, what it keeps its files in, and what creates objects for it.
@@ -16,29 +15,31 @@ pub struct Host<I, O, F, R> {
     pub driver: R,
 }
 
-/// What contracts see of the outside where a command works on one file, and where it works on none. No code is in it.
+/// What contracts see of the outside. No code is in it.
 pub trait Seen {
-    ghost view: { Self → List ℕ → View };
+    ghost Meaning: { Type 0 };
 
-    ghost streams: { Self → Streams };
+    ghost tells: { Tells };
+
+    ghost outside: { Self → Outside Meaning };
 }
 
 impl<I: Source, O: Sink, F: Shelf, R: Driver> Seen for Host<I, O, F, R> {
-    ghost view = { λ host name. record {
-      file = file_of F.Held.content (F.places host.files name);
-      history = history_of F.Held.history (F.places host.files name);
-      disk_faults = faults_of F.Held.faults (F.places host.files name);
-      shelf_faults = F.faults host.files;
-      written = O.written host.output;
-      output_faults = O.faults host.output;
-      input = I.left host.input;
-      input_faults = I.faults host.input;
+    ghost Meaning = { R.Meaning };
+
+    ghost tells = { record {
+      input = I.tells;
+      output = O.tells;
+      content = F.tells × F.Held.tells_content;
+      images = F.tells × F.Held.tells_images;
     } };
 
-    ghost streams = { λ host. record {
+    ghost outside = { λ host. record {
       input = I.left host.input;
       input_faults = I.faults host.input;
       written = O.written host.output;
       output_faults = O.faults host.output;
+      files = files_of F.Held.content F.Held.history F.Held.faults (F.places host.files) (F.faults host.files);
+      driver = R.meaning host.driver;
     } };
 }

@@ -1,41 +1,39 @@
 //! The command `list`.
-ghost use Rattle.std.specs.Prelude.{◌≡◌, ◌≢◌, ◌≤◌, Bool, Result};
+ghost use Rattle.std.specs.Prelude.{◌≡◌, ◌≢◌};
 ghost use Rattle.disk_model.specs.Faults.{Rose};
 ghost use Rattle.disk_model.specs.Place.{out};
-ghost use Rattle.foz_tool.specs.View.{KeepsFiles, PutsBack};
-ghost use Rattle.foz_tool.specs.ListRun.{ListEnds, Lists};
+ghost use Rattle.foz_base.specs.Ending.{Makes, Causes, HasCauses};
+ghost use Rattle.foz_base.specs.FileRead.{StopsReading};
+ghost use Rattle.foz_tool.specs.ListRun.{IsListTold, Lists};
+ghost use Rattle.foz_base.specs.Outside.{file_of, files_of, FileFaultRose, IsFileOnlyRead, WorksOn};
 
-use crate::complaint::complain;
-use crate::files::read_file;
 use crate::host::{Host, Seen};
-use crate::stop::{Stop, status_of};
-use disk_model::{Failed, Shelf, Sink, Source, write_all};
+use disk_model::{Shelf, Sink, Source};
 use driver_check::Driver;
+use foz_base::{Printout, Stop, finish, read_file};
 use foz_text::push_list;
-use foz_words::Name;
+use foz_words::{Name, Row};
 use std::alloc::Global;
 
-/// Prints the text of a file, and says whether each line is `ok`.
-fn list<I: Source, O: Sink, F: Shelf, R: Driver>(
-    alloc: Global,
-    host: &mut Host<I, O, F, R>,
-    file: &str,
-) -> Result<bool, Stop>
-    requires here { F.tells → F.places host.old.files file.now ≢ out }
+/// The text of a file, with 0 where each of its lines is `ok`, else 1.
+fn list<F: Shelf>(alloc: Global, files: &mut F, name: &str) -> Result<Printout, Stop>
+    requires here { F.tells → F.places files.old name.now ≢ out }
 
-    ensures ends { F.tells → F.Held.tells_content → O.tells → let view = ⟦<Host<I, O, F, R> as Seen>⟧.view in ListEnds (view host.old file.now) (view host.new file.now) result }
-    ensures back { F.tells → PutsBack (F.places host.old.files) (F.places host.new.files) }
-    ensures kept { F.tells → F.Held.tells_content → KeepsFiles F.Held.content (F.places host.old.files) (F.places host.new.files) file.now }
-    ensures write_fault { result ≡ Err Stop.WriteFault → Rose (O.faults host.old.output) (O.faults host.new.output) }
-    ensures driver { host.new.driver ≡ host.old.driver }
+    ensures makes { F.tells → F.Held.tells_content → let seen = files_of F.Held.content F.Held.history F.Held.faults in let file = file_of F.Held.content (F.places files.old name.now) in
+        Makes (IsListTold file) (StopsReading file (FileFaultRose (seen (F.places files.old) (F.faults files.old)) (seen (F.places files.new) (F.faults files.new)) name.now)) result }
+    ensures only_read { F.tells → F.Held.tells_content → let seen = files_of F.Held.content F.Held.history F.Held.faults in
+        IsFileOnlyRead F.Held.tells_images (seen (F.places files.old) (F.faults files.old)) (seen (F.places files.new) (F.faults files.new)) name.now }
+    ensures works { WorksOn F.tells (F.places files.old) (F.places files.new) name.now }
+    ensures causes { let seen = files_of F.Held.content F.Held.history F.Held.faults in
+        Causes (F.tells → FileFaultRose (seen (F.places files.old) (F.faults files.old)) (seen (F.places files.new) (F.faults files.new)) name.now) ⊥ result }
 {
-    let scanned = read_file(alloc, &mut host.files, file)?;
+    let scanned = read_file(alloc, files, name)?;
     let mut text = Vec::new(alloc);
     let flawless = push_list(alloc, &mut text, &scanned)?;
-    match write_all(&mut host.output, &text) {
-        Ok(()) => Ok(flawless),
-        Err(Failed) => Err(Stop::WriteFault),
-    }
+    Ok(Printout {
+        text: Row::from_vec(text),
+        status: if flawless { 0 } else { 1 },
+    })
 }
 
 /// Prints a line for each entry of a file, and a line that says where they end.
@@ -46,18 +44,13 @@ pub fn list_cmd<I: Source, O: Sink, F: Shelf, R: Driver>(
 ) -> u8
     requires here { F.tells → F.places host.old.files file ≢ out }
 
-    ensures ends { F.tells → F.Held.tells_content → O.tells → let view = ⟦<Host<I, O, F, R> as Seen>⟧.view in Lists (view host.old file) (view host.new file) result }
-    ensures back { F.tells → PutsBack (F.places host.old.files) (F.places host.new.files) }
-    ensures kept { F.tells → F.Held.tells_content → KeepsFiles F.Held.content (F.places host.old.files) (F.places host.new.files) file }
-    ensures write_fault { result ≡ 4 → Rose (O.faults host.old.output) (O.faults host.new.output) }
+    ensures lists { let seen = ⟦<Host<I, O, F, R> as Seen>⟧ in Lists seen.tells (seen.outside host.old) (seen.outside host.new) file result }
+    ensures works { WorksOn F.tells (F.places host.old.files) (F.places host.new.files) file }
+    ensures causes { let seen = ⟦<Host<I, O, F, R> as Seen>⟧.outside in
+        HasCauses (F.tells → FileFaultRose (seen host.old).files (seen host.new).files file) (Rose (O.faults host.old.output) (O.faults host.new.output)) ⊥ result }
+    ensures input { host.new.input ≡ host.old.input }
     ensures driver { host.new.driver ≡ host.old.driver }
 {
-    match list(alloc, host, file.as_str()) {
-        Ok(true) => 0,
-        Ok(false) => 1,
-        Err(stop) => {
-            complain(alloc, &mut host.errors, &stop);
-            status_of(&stop)
-        }
-    }
+    let made = list(alloc, &mut host.files, file.as_str());
+    finish(alloc, &mut host.output, &mut host.errors, made)
 }

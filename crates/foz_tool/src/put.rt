@@ -1,78 +1,77 @@
 //! The command `put`.
-ghost use Rattle.std.specs.Prelude.{◌≡◌, ◌≢◌, ◌⊎◌, ◌++◌, ℕ, Result, IfErr, take, OnOk};
-ghost use Rattle.disk_model.specs.Faults.{Rose, HasCause};
+ghost use Rattle.std.specs.Prelude.{◌≡◌, ◌≢◌, IfOk, IfErr};
+ghost use Rattle.disk_model.specs.Faults.{Rose};
 ghost use Rattle.disk_model.specs.Place.{out};
+ghost use Rattle.foz_base.specs.Ending.{Makes, Causes, HasCauses};
+ghost use Rattle.foz_base.specs.FileWork.{FileLeaves};
+ghost use Rattle.foz_base.specs.Outside.{file_of, history_of, files_of, FileFaultRose, IsSettledFile, WorksOn};
 ghost use Rattle.foz_text.specs.PutText.{put_text};
-ghost use Rattle.foz_tool.specs.FileRecord.{IsSettledFile};
-ghost use Rattle.foz_tool.specs.View.{KeepsOthers, PutsBack};
-ghost use Rattle.foz_tool.specs.PutRun.{PutEnds, PutLeaves, Puts, IsFlushed, status_of_reply, status_of_put};
+ghost use Rattle.foz_tool.specs.PutRun.{IsPutTold, IsStatusOf, IsUntold, StopsPut, LeavesRecord, Puts};
+ghost use Rattle.foz_base.specs.Recording.{IsDone};
 
-use crate::complaint::complain;
-use crate::files::{laws_of_disks, record_in_file};
 use crate::host::{Host, Seen};
-use crate::input::read_input;
-use crate::stop::{Stop, status_of};
-use disk_model::{Failed, Shelf, Sink, Source, write_all};
+use disk_model::{Shelf, Sink, Source};
 use driver_check::Driver;
+use foz_base::{OneLine, Printout, Recording, Stop, finish, only_reply, read_input, write_file};
 use foz_text::push_put;
-use foz_words::{Key, Name};
+use foz_words::{Key, Name, NoMemory, Row};
 use record_words::RecordReply;
 use std::alloc::Global;
 
-/// Records the input in a file, and prints the reply.
-fn put<I: Source, O: Sink, F: Shelf, R: Driver>(
+/// Records an input under a key in a file. Gives the line that says how that went, with 0 where the payload is there now.
+fn put<I: Source, F: Shelf>(
     alloc: Global,
-    host: &mut Host<I, O, F, R>,
-    file: &str,
+    input: &mut I,
+    files: &mut F,
+    name: &str,
     key: Key,
-) -> Result<RecordReply, Stop>
-    requires here { F.tells → F.places host.old.files file.now ≢ out }
+) -> Result<Printout, Stop>
+    requires here { F.tells → F.places files.old name.now ≢ out }
 
-    ensures ends { F.tells → F.Held.tells_content → O.tells → I.tells → let view = ⟦<Host<I, O, F, R> as Seen>⟧.view in PutEnds (view host.old file.now) (view host.new file.now) key result }
-    ensures leaves { F.tells → F.Held.tells_images → I.tells → let view = ⟦<Host<I, O, F, R> as Seen>⟧.view in PutLeaves (view host.old file.now) (view host.new file.now) key }
-    ensures durable { F.tells → F.Held.tells_images → IsFlushed (status_of_put result) → IsSettledFile (⟦<Host<I, O, F, R> as Seen>⟧.view host.new file.now).history }
-    ensures back { F.tells → PutsBack (F.places host.old.files) (F.places host.new.files) }
-    ensures others { F.tells → KeepsOthers (F.places host.old.files) (F.places host.new.files) file.now }
-    ensures read_fault { result ≡ Err Stop.ReadFault → Rose (I.faults host.old.input) (I.faults host.new.input) }
-    ensures write_fault { result ≡ Err Stop.WriteFault → Rose (O.faults host.old.output) (O.faults host.new.output) }
-    ensures driver { host.new.driver ≡ host.old.driver }
+    ensures makes { I.tells → F.tells → F.Held.tells_content → let seen = files_of F.Held.content F.Held.history F.Held.faults in
+        let before = file_of F.Held.content (F.places files.old name.now) in let after = file_of F.Held.content (F.places files.new name.now) in
+        Makes (IsPutTold (I.left input.old) (I.left input.new) before after key)
+        (StopsPut (I.left input.old) (I.left input.new) (Rose (I.faults input.old) (I.faults input.new)) before after
+        (FileFaultRose (seen (F.places files.old) (F.faults files.old)) (seen (F.places files.new) (F.faults files.new)) name.now) key) result }
+    ensures leaves { I.tells → F.tells → F.Held.tells_images → FileLeaves (LeavesRecord key (I.left input.old)) (file_of F.Held.content (F.places files.old name.now))
+        (history_of F.Held.history (F.places files.old name.now)) (history_of F.Held.history (F.places files.new name.now)) }
+    ensures durable { F.tells → F.Held.tells_images → IsDone result → IsSettledFile (history_of F.Held.history (F.places files.new name.now)) }
+    ensures works { WorksOn F.tells (F.places files.old) (F.places files.new) name.now }
+    ensures causes { let seen = files_of F.Held.content F.Held.history F.Held.faults in
+        Causes (Rose (I.faults input.old) (I.faults input.new)) (F.tells → FileFaultRose (seen (F.places files.old) (F.faults files.old)) (seen (F.places files.new) (F.faults files.new)) name.now) result }
 {
-    laws_of_disks::<F::Held>();
-    let payload = read_input(alloc, &mut host.input)?;
-    let reply = record_in_file(alloc, &mut host.files, file, key, payload.as_slice())?;
-    match reply {
-        RecordReply::Full { end, need } => Err(Stop::Full { end, need }),
-        RecordReply::TooMany { count } => Err(Stop::TooMany { count }),
-        _ => {
-            print_reply(alloc, &mut host.output, &reply)?;
-            Ok(reply)
+    let payload = read_input(alloc, input)?;
+    let lines = OneLine::<NoMemory>::new(key, payload);
+    let report = write_file(alloc, files, name, Recording { lines })?;
+    match only_reply(report.answers.as_slice()) {
+        Some(reply) => reply_told(alloc, &reply),
+        // One line that is read has one answer.
+        None => unreachable!(),
+    }
+}
+
+/// The line of a reply, unless it says that the archive is full.
+fn reply_told(alloc: Global, reply: &RecordReply) -> Result<Printout, Stop>
+    ensures told { IfOk result (λ made. (made.text ≡ put_text reply.now) × IsStatusOf reply.now made.status) }
+    ensures untold { IfErr result (IsUntold reply.now) }
+{
+    let status = match reply {
+        RecordReply::Full { end, need } => {
+            return Err(Stop::Full {
+                end: *end,
+                need: *need,
+            });
         }
-    }
-}
-
-/// Prints the line of a reply.
-fn print_reply<O: Sink>(alloc: Global, output: &mut O, reply: &RecordReply) -> Result<(), Stop>
-    ensures printed { O.tells → OnOk result (O.written output.new ≡ O.written output.old ++ put_text reply.now) }
-    ensures cut_short { O.tells → result ≡ Err Stop.WriteFault → (count : ℕ) × (O.written output.new ≡ O.written output.old ++ take count (put_text reply.now)) }
-    ensures not_printed { O.tells → result ≡ Err Stop.Memory → O.written output.new ≡ O.written output.old }
-    ensures write_fault { result ≡ Err Stop.WriteFault → Rose (O.faults output.old) (O.faults output.new) }
-    ensures causes { IfErr result (λ stop. (stop ≡ Stop.WriteFault) ⊎ (stop ≡ Stop.Memory)) }
-{
-    let mut line = Vec::new(alloc);
-    push_put(alloc, &mut line, reply)?;
-    match write_all(output, &line) {
-        Ok(()) => Ok(()),
-        Err(Failed) => Err(Stop::WriteFault),
-    }
-}
-
-fn status_of_reply(reply: &RecordReply) -> u8
-    ensures { result ≡ status_of_reply reply.now }
-{
-    match reply {
+        RecordReply::TooMany { count } => return Err(Stop::TooMany { count: *count }),
         RecordReply::New { .. } | RecordReply::Known { .. } => 0,
         _ => 1,
-    }
+    };
+    let mut line = Vec::new(alloc);
+    push_put(alloc, &mut line, reply)?;
+    Ok(Printout {
+        text: Row::from_vec(line),
+        status,
+    })
 }
 
 /// Records the input under a key in a file, and prints a line that says whether it is new or known.
@@ -84,20 +83,12 @@ pub fn put_cmd<I: Source, O: Sink, F: Shelf, R: Driver>(
 ) -> u8
     requires here { F.tells → F.places host.old.files file ≢ out }
 
-    ensures ends { F.tells → F.Held.tells_content → O.tells → I.tells → let view = ⟦<Host<I, O, F, R> as Seen>⟧.view in Puts (view host.old file) (view host.new file) key result }
-    ensures leaves { F.tells → F.Held.tells_images → I.tells → let view = ⟦<Host<I, O, F, R> as Seen>⟧.view in PutLeaves (view host.old file) (view host.new file) key }
-    ensures durable { F.tells → F.Held.tells_images → IsFlushed result → IsSettledFile (⟦<Host<I, O, F, R> as Seen>⟧.view host.new file).history }
-    ensures back { F.tells → PutsBack (F.places host.old.files) (F.places host.new.files) }
-    ensures others { F.tells → KeepsOthers (F.places host.old.files) (F.places host.new.files) file }
-    ensures read_fault { result ≡ 3 → Rose (I.faults host.old.input) (I.faults host.new.input) }
-    ensures write_fault { result ≡ 4 → Rose (O.faults host.old.output) (O.faults host.new.output) }
+    ensures puts { let seen = ⟦<Host<I, O, F, R> as Seen>⟧ in Puts seen.tells (seen.outside host.old) (seen.outside host.new) file key result }
+    ensures works { WorksOn F.tells (F.places host.old.files) (F.places host.new.files) file }
+    ensures causes { let seen = ⟦<Host<I, O, F, R> as Seen>⟧.outside in
+        HasCauses (Rose (I.faults host.old.input) (I.faults host.new.input)) (Rose (O.faults host.old.output) (O.faults host.new.output)) (F.tells → FileFaultRose (seen host.old).files (seen host.new).files file) result }
     ensures driver { host.new.driver ≡ host.old.driver }
 {
-    match put(alloc, host, file.as_str(), key) {
-        Ok(reply) => status_of_reply(&reply),
-        Err(stop) => {
-            complain(alloc, &mut host.errors, &stop);
-            status_of(&stop)
-        }
-    }
+    let made = put(alloc, &mut host.input, &mut host.files, file.as_str(), key);
+    finish(alloc, &mut host.output, &mut host.errors, made)
 }

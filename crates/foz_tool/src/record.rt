@@ -1,50 +1,99 @@
 //! The command `record`.
-ghost use Rattle.std.specs.Prelude.{◌≡◌, ◌≢◌, Result};
+ghost use Rattle.std.specs.Prelude.{◌≡◌, ◌≢◌};
+ghost use Rattle.std.specs.List.{list_any};
 ghost use Rattle.disk_model.specs.Faults.{Rose};
 ghost use Rattle.disk_model.specs.Place.{out};
 ghost use Rattle.capture_reader.specs.Said.{lines_said};
 ghost use Rattle.foz_text.specs.LineCause.{line_cause_text};
-ghost use Rattle.foz_tool.specs.FileRecord.{IsSettledFile};
-ghost use Rattle.foz_tool.specs.View.{KeepsOthers, PutsBack};
-ghost use Rattle.foz_tool.specs.PutRun.{IsFlushed};
-ghost use Rattle.foz_tool.specs.RecordRun.{RecordRunEnds, RecordRunLeaves, Records, status_of_record};
+ghost use Rattle.record_lines.specs.Capture.{CaptureLeaves};
+ghost use Rattle.foz_text.specs.RecordText.{is_refused};
+ghost use Rattle.foz_base.specs.Ending.{Makes, Causes, HasCauses};
+ghost use Rattle.foz_base.specs.FileWork.{FileLeaves};
+ghost use Rattle.foz_base.specs.Outside.{file_of, history_of, files_of, FileFaultRose, IsSettledFile, WorksOn};
+ghost use Rattle.foz_tool.specs.RecordRun.{IsRecordTold, Records, is_full, status_of_answers};
+ghost use Rattle.foz_base.specs.Recording.{IsDone, StopsRecording};
 
-use crate::capture_file::input_in_file;
-use crate::complaint::complain;
-use crate::files::laws_of_disks;
 use crate::host::{Host, Seen};
-use crate::input::read_input;
-use crate::report::{print_report, status_of_report};
-use crate::stop::{Stop, status_of};
 use capture_lines::LineError;
+use capture_reader::CaptureReader;
 use disk_model::{Shelf, Sink, Source};
 use driver_check::Driver;
-use foz_words::Name;
-use record_lines::Report;
+use foz_base::{Printout, Recording, Stop, finish, read_input, write_file};
+use foz_text::{is_refused, push_record};
+use foz_words::{Name, Row};
+use record_words::{Answered, LineAnswer, RecordReply, lines_in_order_make_a_record};
 use std::alloc::Global;
 
-/// Records the lines of the input in a file, and prints the report.
-fn record<I: Source, O: Sink, F: Shelf, R: Driver>(
-    alloc: Global,
-    host: &mut Host<I, O, F, R>,
-    file: &str,
-) -> Result<Report<LineError>, Stop>
-    requires here { F.tells → F.places host.old.files file.now ≢ out }
-
-    ensures ends { F.tells → F.Held.tells_content → O.tells → I.tells → let view = ⟦<Host<I, O, F, R> as Seen>⟧.view in RecordRunEnds line_cause_text lines_said (view host.old file.now) (view host.new file.now) result }
-    ensures leaves { F.tells → F.Held.tells_images → I.tells → let view = ⟦<Host<I, O, F, R> as Seen>⟧.view in RecordRunLeaves lines_said (view host.old file.now) (view host.new file.now) }
-    ensures durable { F.tells → F.Held.tells_images → IsFlushed (status_of_record result) → IsSettledFile (⟦<Host<I, O, F, R> as Seen>⟧.view host.new file.now).history }
-    ensures back { F.tells → PutsBack (F.places host.old.files) (F.places host.new.files) }
-    ensures others { F.tells → KeepsOthers (F.places host.old.files) (F.places host.new.files) file.now }
-    ensures read_fault { result ≡ Err Stop.ReadFault → Rose (I.faults host.old.input) (I.faults host.new.input) }
-    ensures write_fault { result ≡ Err Stop.WriteFault → Rose (O.faults host.old.output) (O.faults host.new.output) }
-    ensures driver { host.new.driver ≡ host.old.driver }
+fn is_full<C>(answered: &Answered<C>) -> bool
+    ensures { result ≡ is_full answered.now }
 {
-    laws_of_disks::<F::Held>();
-    let input = read_input(alloc, &mut host.input)?;
-    let report = input_in_file(alloc, &mut host.files, file, input.as_slice())?;
-    print_report(alloc, &mut host.output, &report)?;
-    Ok(report)
+    match &answered.answer {
+        LineAnswer::Refused(_) => false,
+        LineAnswer::Replied { reply, .. } => matches!(
+            reply,
+            RecordReply::Full { .. } | RecordReply::TooMany { .. }
+        ),
+    }
+}
+
+/// Has a line no room?
+fn is_any_full<C>(answers: &[Answered<C>]) -> bool
+    ensures { result ≡ list_any is_full answers.now }
+{
+    answers.iter().any(|one| is_full(one))
+}
+
+/// Is a line neither new nor known?
+fn is_any_refused<C>(answers: &[Answered<C>]) -> bool
+    ensures { result ≡ list_any is_refused answers.now }
+{
+    answers.iter().any(|one| is_refused(one))
+}
+
+/// 8 where a line has no room, else 1 where a line is neither new nor known, else 0.
+fn status_of_answers<C>(answers: &[Answered<C>]) -> u8
+    ensures { result ≡ status_of_answers answers.now }
+{
+    if is_any_full(answers) {
+        8
+    } else if is_any_refused(answers) {
+        1
+    } else {
+        0
+    }
+}
+
+/// Records the lines of an input in a file. Gives the text that tells their answers, and its status.
+fn record<I: Source, F: Shelf>(
+    alloc: Global,
+    input: &mut I,
+    files: &mut F,
+    name: &str,
+) -> Result<Printout, Stop>
+    requires here { F.tells → F.places files.old name.now ≢ out }
+
+    ensures makes { I.tells → F.tells → F.Held.tells_content → let seen = files_of F.Held.content F.Held.history F.Held.faults in
+        let before = file_of F.Held.content (F.places files.old name.now) in let after = file_of F.Held.content (F.places files.new name.now) in
+        Makes (IsRecordTold line_cause_text lines_said (I.left input.old) (I.left input.new) before after)
+        (StopsRecording (I.left input.old) (I.left input.new) (Rose (I.faults input.old) (I.faults input.new)) before after
+        (FileFaultRose (seen (F.places files.old) (F.faults files.old)) (seen (F.places files.new) (F.faults files.new)) name.now)) result }
+    ensures leaves { I.tells → F.tells → F.Held.tells_images → FileLeaves (λ content old new. CaptureLeaves content old new (lines_said (I.left input.old)))
+        (file_of F.Held.content (F.places files.old name.now)) (history_of F.Held.history (F.places files.old name.now)) (history_of F.Held.history (F.places files.new name.now)) }
+    ensures durable { F.tells → F.Held.tells_images → IsDone result → IsSettledFile (history_of F.Held.history (F.places files.new name.now)) }
+    ensures works { WorksOn F.tells (F.places files.old) (F.places files.new) name.now }
+    ensures causes { let seen = files_of F.Held.content F.Held.history F.Held.faults in
+        Causes (Rose (I.faults input.old) (I.faults input.new)) (F.tells → FileFaultRose (seen (F.places files.old) (F.faults files.old)) (seen (F.places files.new) (F.faults files.new)) name.now) result }
+{
+    lines_in_order_make_a_record::<LineError>();
+    let capture = read_input(alloc, input)?;
+    let lines = CaptureReader::new(capture.as_slice());
+    let report = write_file(alloc, files, name, Recording { lines })?;
+    let mut text = Vec::new(alloc);
+    push_record(alloc, &mut text, report.answers.as_slice(), report.entries)?;
+    Ok(Printout {
+        text: Row::from_vec(text),
+        status: status_of_answers(report.answers.as_slice()),
+    })
 }
 
 /// Records the lines of the input in a file, prints a line for each that isn't skipped, and one that counts them.
@@ -52,26 +101,17 @@ pub fn record_cmd<I: Source, O: Sink, F: Shelf, R: Driver>(
     alloc: Global,
     host: &mut Host<I, O, F, R>,
     file: Name,
-    threads: u32,
+    _threads: u32,
 ) -> u8
     requires here { F.tells → F.places host.old.files file ≢ out }
-    requires one_thread { threads ≡ 1 }
+    requires one_thread { _threads ≡ 1 }
 
-    ensures ends { F.tells → F.Held.tells_content → O.tells → I.tells → let view = ⟦<Host<I, O, F, R> as Seen>⟧.view in Records line_cause_text lines_said (view host.old file) (view host.new file) result }
-    ensures leaves { F.tells → F.Held.tells_images → I.tells → let view = ⟦<Host<I, O, F, R> as Seen>⟧.view in RecordRunLeaves lines_said (view host.old file) (view host.new file) }
-    ensures durable { F.tells → F.Held.tells_images → IsFlushed result → IsSettledFile (⟦<Host<I, O, F, R> as Seen>⟧.view host.new file).history }
-    ensures back { F.tells → PutsBack (F.places host.old.files) (F.places host.new.files) }
-    ensures others { F.tells → KeepsOthers (F.places host.old.files) (F.places host.new.files) file }
-    ensures read_fault { result ≡ 3 → Rose (I.faults host.old.input) (I.faults host.new.input) }
-    ensures write_fault { result ≡ 4 → Rose (O.faults host.old.output) (O.faults host.new.output) }
+    ensures records { let seen = ⟦<Host<I, O, F, R> as Seen>⟧ in Records line_cause_text lines_said seen.tells (seen.outside host.old) (seen.outside host.new) file result }
+    ensures works { WorksOn F.tells (F.places host.old.files) (F.places host.new.files) file }
+    ensures causes { let seen = ⟦<Host<I, O, F, R> as Seen>⟧.outside in
+        HasCauses (Rose (I.faults host.old.input) (I.faults host.new.input)) (Rose (O.faults host.old.output) (O.faults host.new.output)) (F.tells → FileFaultRose (seen host.old).files (seen host.new).files file) result }
     ensures driver { host.new.driver ≡ host.old.driver }
 {
-    prove!(threads == 1);
-    match record(alloc, host, file.as_str()) {
-        Ok(report) => status_of_report(&report),
-        Err(stop) => {
-            complain(alloc, &mut host.errors, &stop);
-            status_of(&stop)
-        }
-    }
+    let made = record(alloc, &mut host.input, &mut host.files, file.as_str());
+    finish(alloc, &mut host.output, &mut host.errors, made)
 }

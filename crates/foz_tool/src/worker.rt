@@ -1,14 +1,14 @@
 //! The command `worker`.
-ghost use Rattle.std.specs.Prelude.{◌≡◌, ◌≤◌};
+ghost use Rattle.std.specs.Prelude.{◌≡◌};
 ghost use Rattle.disk_model.specs.Faults.{Rose};
-ghost use Rattle.foz_tool.specs.Status.{status_of_stop};
-ghost use Rattle.foz_tool.specs.WorkerRun.{EndsAs, Serves, status_of_served};
+ghost use Rattle.foz_base.specs.Status.{status_of_stop};
+ghost use Rattle.foz_base.specs.Ending.{HasCauses};
+ghost use Rattle.foz_tool.specs.WorkerRun.{Serves, status_of_served};
 
-use crate::complaint::complain;
 use crate::host::{Host, Seen};
-use crate::stop::{Stop, status_of};
 use disk_model::{Shelf, Sink, Source};
 use driver_check::Driver;
+use foz_base::{Stop, complain, status_of};
 use std::alloc::Global;
 use std::fmt;
 use worker_node::{Served, serve};
@@ -54,13 +54,9 @@ pub fn worker_cmd<I: Source, O: Sink, F: Shelf, R: Driver>(
     alloc: Global,
     host: &mut Host<I, O, F, R>,
 ) -> u8
-    ensures serves { I.tells → O.tells → let streams = ⟦<Host<I, O, F, R> as Seen>⟧.streams in
-        Serves R.creates (streams host.old) (streams host.new) (R.meaning host.old.driver) (R.meaning host.new.driver) result }
-    ensures ends { I.tells → EndsAs (I.left host.old.input) (I.left host.new.input) result }
+    ensures serves { let seen = ⟦<Host<I, O, F, R> as Seen>⟧ in Serves R.creates seen.tells (seen.outside host.old) (seen.outside host.new) result }
+    ensures causes { HasCauses (Rose (I.faults host.old.input) (I.faults host.new.input)) (Rose (O.faults host.old.output) (O.faults host.new.output)) ⊥ result }
     ensures files { host.new.files ≡ host.old.files }
-    ensures read_fault { result ≡ 3 → Rose (I.faults host.old.input) (I.faults host.new.input) }
-    ensures write_fault { result ≡ 4 → Rose (O.faults host.old.output) (O.faults host.new.output) }
-    ensures later { (I.faults host.old.input ≤ I.faults host.new.input) × (O.faults host.old.output ≤ O.faults host.new.output) }
 {
     let end = serve(alloc, &mut host.input, &mut host.output, &mut host.driver);
     status_of_end(alloc, &mut host.errors, end)

@@ -1,6 +1,10 @@
-use Rattle.foz_tool.proofs.CheckTold.{answered}
+use Rattle.std.proofs.Common.{List, Option, ap, sym, ◌∙◌}
+use Rattle.replay_core.specs.declared.event.Verdict.{Verdict}
+use Rattle.replay_text.specs.Overall.{overall}
 use Rattle.foz_tool.proofs.check.replay_told.Goals as goal
 
 pub unreachable-requires : goal.unreachable-requires
 unreachable-requires g c =
-    answered g.R.Driver.creates _ _ c.args.entries.now c.in_ok-checked.checked.graph c.in_ok-checked.checked.core c.verdicts-verdicts.result.now c.in_ok-went.went c.in_ok-checked.ensures c.verdicts-verdicts.ensures c.in_ok-went.ensures.overall c.in-Unanswered.is
+    let classes = c.in_ok-checked.checked.graph.classes in
+    c.decided_is_answered.ensures _ _ _ c.in_ok-checked.ensures.replay.decided
+    (ap (λ (verdicts : List (Option Verdict)). overall classes verdicts) (sym c.verdicts-verdicts.ensures) ∙ sym c.in_ok-went.ensures.overall ∙ c.in-Unanswered.is)

@@ -1,49 +1,37 @@
-use Rattle.std.proofs.Common.{◌≡◌, ℕ, List, Some, Err, refl, sym, ap, ◌∙◌}
-use Rattle.foz_words.specs.declared.key.Key.{Key}
-use Rattle.foz_tool.specs.declared.stop.Stop.TheVariants.{Memory}
-use Rattle.foz_tool.specs.declared.command.Command.TheVariants as command
-use Rattle.foz_tool.proofs.FileRecord.{untaken_leaves}
-use Rattle.foz_tool.proofs.CaptureFile.{untaken_capture}
-use Rattle.foz_tool.proofs.WorkerEnds.{unserved}
+use Rattle.std.proofs.Common.{Some, ap, ◌∙◌}
+use Rattle.foz_tool.proofs.Dues.{due}
+use Rattle.foz_tool.proofs.OutOfMemory.{not_usage, out_of_memory}
 use Rattle.foz_tool.proofs.program.run.Goals as goal
 
-pub returns-in-Err-Memory-clause-list : goal.returns-in-Err-Memory-clause-list
-returns-in-Err-Memory-clause-list g c = λ shelf disk output file is. record { outcome = Err Memory; ends = record { stopped = tt; written = refl }; answered = refl }
+pub returns-in-Ok-List-clause-complete : goal.returns-in-Ok-List-clause-complete
+returns-in-Ok-List-clause-complete g c =
+    let is = c.in-Ok-List.ensures.read ∙ ap Some c.in-Ok-List.field-0-is in
+    rw is (λ input output content sound. due g.R.Driver.creates _ _ _ _ _ c.list_cmd.ensures.lists input output content sound)
 
-pub returns-in-Err-Memory-clause-put : goal.returns-in-Err-Memory-clause-put
-returns-in-Err-Memory-clause-put g c = λ shelf disk output input file key is. record { outcome = Err Memory; ends = refl; answered = refl }
+pub returns-in-Ok-Put-clause-complete : goal.returns-in-Ok-Put-clause-complete
+returns-in-Ok-Put-clause-complete g c =
+    let is = c.in-Ok-Put.ensures.read ∙ ap Some c.in-Ok-Put.field-0-is in
+    rw is (λ input output content sound. due g.R.Driver.creates _ _ _ _ _ c.put_cmd.ensures.puts input output content sound)
 
-pub returns-in-Err-Memory-clause-put_leaves : goal.returns-in-Err-Memory-clause-put_leaves
-returns-in-Err-Memory-clause-put_leaves g c = λ shelf images tells file key is.
-    untaken_leaves g.F.Held.Disk.content g.F.Held.Disk.history _ _ _ (c.laws_of_disks.ensures.is_now images)
+pub returns-in-Ok-Hash-clause-complete : goal.returns-in-Ok-Hash-clause-complete
+returns-in-Ok-Hash-clause-complete g c =
+    let is = c.in-Ok-Hash.ensures.read ∙ ap Some c.in-Ok-Hash.field-0-is in
+    rw is (λ input output content sound. due g.R.Driver.creates _ _ _ _ _ c.hash_cmd.ensures.hashes input output content sound)
 
-pub returns-in-Err-Memory-clause-hash : goal.returns-in-Err-Memory-clause-hash
-returns-in-Err-Memory-clause-hash g c = λ input output is. record { outcome = Err Memory; ends = record { stopped = tt; written = refl }; answered = refl }
+pub returns-in-Ok-Record-clause-complete : goal.returns-in-Ok-Record-clause-complete
+returns-in-Ok-Record-clause-complete g c =
+    let is = c.in-Ok-Record.ensures.read ∙ ap Some c.in-Ok-Record.field-0-is in
+    rw is (λ input output content sound. due g.R.Driver.creates _ _ _ _ _ c.record_cmd.ensures.records input output content sound)
 
-same_put : (a b : List ℕ) (k l : Key) → Some (command.Put a k) ≡ Some (command.Put b l) → (a ≡ b) × (k ≡ l)
-same_put a b k l is = (cc, cc)
+pub returns-in-Ok-Check-clause-complete : goal.returns-in-Ok-Check-clause-complete
+returns-in-Ok-Check-clause-complete g c =
+    let is = c.in-Ok-Check.ensures.read ∙ ap Some c.in-Ok-Check.field-0-is in
+    rw is (λ input output content sound. due g.R.Driver.creates _ _ _ _ _ c.check_cmd.ensures.checks input output content sound)
 
-pub returns-in-Ok-Put-clause-put_leaves : goal.returns-in-Ok-Put-clause-put_leaves
-returns-in-Ok-Put-clause-put_leaves g c = λ shelf images tells file key is.
-    let same = same_put _ _ _ _ (sym is ∙ c.in-Ok-Put.ensures.read ∙ ap Some c.in-Ok-Put.field-0-is) in
-    rw (same.0, same.1) (c.put_cmd.ensures.leaves shelf images tells)
+pub returns-in-Ok-Worker-clause-complete : goal.returns-in-Ok-Worker-clause-complete
+returns-in-Ok-Worker-clause-complete g c =
+    let is = c.in-Ok-Worker.ensures.read ∙ ap Some c.in-Ok-Worker.field-0-is in
+    rw is (λ input output content sound. due g.R.Driver.creates _ _ _ _ _ c.worker_cmd.ensures.serves input output content sound)
 
-pub returns-in-Err-Memory-clause-record : goal.returns-in-Err-Memory-clause-record
-returns-in-Err-Memory-clause-record g c = λ shelf disk output input file threads is. record { outcome = Err Memory; ends = refl; answered = refl }
-
-pub returns-in-Err-Memory-clause-record_leaves : goal.returns-in-Err-Memory-clause-record_leaves
-returns-in-Err-Memory-clause-record_leaves g c = λ shelf images tells file threads is.
-    untaken_capture g.F.Held.Disk.content g.F.Held.Disk.history _ _ (c.laws_of_disks.ensures.is_now images)
-
-same_record : (a b : List ℕ) (m n : ℕ) → Some (command.Record a m) ≡ Some (command.Record b n) → a ≡ b
-same_record a b m n is = cc
-
-pub returns-in-Ok-Record-clause-record_leaves : goal.returns-in-Ok-Record-clause-record_leaves
-returns-in-Ok-Record-clause-record_leaves g c = λ shelf images tells file threads is.
-    rw (same_record _ _ _ _ (sym is ∙ c.in-Ok-Record.ensures.read ∙ ap Some c.in-Ok-Record.field-0-is)) (c.record_cmd.ensures.leaves shelf images tells)
-
-pub returns-in-Err-Memory-clause-check : goal.returns-in-Err-Memory-clause-check
-returns-in-Err-Memory-clause-check g c = λ shelf disk output file is. record { outcome = Err Memory; ends = refl; answered = refl }
-
-pub returns-in-Err-Memory-clause-worker : goal.returns-in-Err-Memory-clause-worker
-returns-in-Err-Memory-clause-worker g c = λ input output is. unserved g.R.Driver.creates _ _
+pub returns-in-Err-Memory-clause-runs : goal.returns-in-Err-Memory-clause-runs
+returns-in-Err-Memory-clause-runs g c = out_of_memory _ g.R.Driver.creates _ _ (λ none. not_usage _ c.in-Err-Memory.field-0-is (c.in-Err-Memory.ensures.usage.1 none))

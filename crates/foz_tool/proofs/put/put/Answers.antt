@@ -1,42 +1,30 @@
-use Rattle.std.proofs.Common.{Err, ap, sym}
-use Rattle.std.proofs.lemmas.Result.{err_from_is_err_and}
-use Rattle.foz_tool.proofs.FileRecord.{untaken_leaves}
-use Rattle.foz_tool.proofs.PutEnds.{put_whole, unprinted}
+use Rattle.std.proofs.Common.{ℕ, List, [], ◌∷◌, ap, sym, ◌∙◌, arith, length}
+use Rattle.record_words.specs.Recorded.{read}
+use Rattle.foz_base.specs.Recording.{only_reply}
+use Rattle.foz_tool.proofs.Told.{always_replied, input_read, is_put, put_leaves, put_makes}
 use Rattle.foz_tool.proofs.put.put.Goals as goal
 
-pub returns-in_err-payload-clause-leaves : goal.returns-in_err-payload-clause-leaves
-returns-in_err-payload-clause-leaves g c = λ shelf images tells.
-    untaken_leaves g.F.Held.Disk.content g.F.Held.Disk.history _ _ _ (c.laws_of_disks.ensures.is_now images)
+pub write_file-requires-clause-ready : goal.write_file-requires-clause-ready
+write_file-requires-clause-ready g c κs within = omega (arith, ap length c.new-lines.ensures)
 
-pub returns-in_err-reply-clause-leaves : goal.returns-in_err-reply-clause-leaves
-returns-in_err-reply-clause-leaves g c = λ shelf images tells.
-    rw (sym (c.in_ok-payload.ensures.reads tells).whole, sym c.as_slice.ensures) (c.in_err-reply.ensures.leaves shelf images)
+pub unreachable-requires : goal.unreachable-requires
+unreachable-requires g c =
+    always_replied c.args.key _ _ c.new-lines.ensures c.in_ok-report.report c.in_ok-report.ensures.tells (ap only_reply (sym c.as_slice.ensures) ∙ sym c.only_reply.ensures ∙ c.in-None.is)
 
-pub returns-in-Full-clause-leaves : goal.returns-in-Full-clause-leaves
-returns-in-Full-clause-leaves g c = λ shelf images tells.
-    rw (sym (c.in_ok-payload.ensures.reads tells).whole, sym c.as_slice.ensures) (c.in_ok-reply.ensures.leaves shelf images)
-
-pub returns-in-TooMany-clause-leaves : goal.returns-in-TooMany-clause-leaves
-returns-in-TooMany-clause-leaves g c = λ shelf images tells.
-    rw (sym (c.in_ok-payload.ensures.reads tells).whole, sym c.as_slice.ensures) (c.in_ok-reply.ensures.leaves shelf images)
-
-pub returns-in_err-print_reply-in_default-clause-ends : goal.returns-in_err-print_reply-in_default-clause-ends
-returns-in_err-print_reply-in_default-clause-ends g c = λ shelf disk output input.
-    let not = c.in_err-print_reply-in_default.ensures in
-    let exit = c.from_residual-in_err-print_reply-in_default in
-    let err = err_from_is_err_and exit.result exit.ensures.1 in
-    rw (err.1, err.2) (unprinted _ _ _ _ (c.in_ok-payload.ensures.reads input) _ (rw (sym c.as_slice.ensures) (c.in_ok-reply.ensures.ends shelf disk)) c.in_default.not-Full c.in_default.not-TooMany
-    c.in_err-print_reply-in_default.field-0.0 not.causes (λ is. not.cut_short output (ap Err is)) (λ is. not.write_fault (ap Err is)) (λ is. not.not_printed output (ap Err is)))
-
-pub returns-clause-ends : goal.returns-clause-ends
-returns-clause-ends g c = λ shelf disk output input.
-    put_whole _ _ _ _ (c.in_ok-payload.ensures.reads input) _ (rw (sym c.as_slice.ensures) (c.in_ok-reply.ensures.ends shelf disk)) c.in_default.not-Full c.in_default.not-TooMany
-    (c.in_ok-print_reply-in_default.ensures.printed output)
-
-pub returns-in_err-print_reply-in_default-clause-leaves : goal.returns-in_err-print_reply-in_default-clause-leaves
-returns-in_err-print_reply-in_default-clause-leaves g c = λ shelf images tells.
-    rw (sym (c.in_ok-payload.ensures.reads tells).whole, sym c.as_slice.ensures) (c.in_ok-reply.ensures.leaves shelf images)
+pub returns-in_err-report-clause-leaves : goal.returns-in_err-report-clause-leaves
+returns-in_err-report-clause-leaves g c = λ input shelf images.
+    let lines = c.new-lines.ensures ∙ ap (λ (payload : List ℕ). read c.args.key payload ∷ []) (c.in_ok-payload.ensures.reads input).whole in
+    put_leaves c.args.key _ _ lines _ _ _ (c.write_file.ensures.leaves shelf images)
 
 pub returns-clause-leaves : goal.returns-clause-leaves
-returns-clause-leaves g c = λ shelf images tells.
-    rw (sym (c.in_ok-payload.ensures.reads tells).whole, sym c.as_slice.ensures) (c.in_ok-reply.ensures.leaves shelf images)
+returns-clause-leaves g c = λ input shelf images.
+    let lines = c.new-lines.ensures ∙ ap (λ (payload : List ℕ). read c.args.key payload ∷ []) (c.in_ok-payload.ensures.reads input).whole in
+    put_leaves c.args.key _ _ lines _ _ _ (c.write_file.ensures.leaves shelf images)
+
+pub returns-clause-makes : goal.returns-clause-makes
+returns-clause-makes g c = λ input shelf content.
+    let reads = c.in_ok-payload.ensures.reads input in
+    let lines = c.new-lines.ensures ∙ ap (λ (payload : List ℕ). read c.args.key payload ∷ []) reads.whole in
+    let only = ap only_reply (sym c.as_slice.ensures) ∙ sym c.only_reply.ensures ∙ c.in-Some.is in
+    put_makes _ _ _ _ _ _ c.args.key c.in-Some.reply (is_put _ _ (input_read _ _ _ reads) _ _ c.args.key c.in_ok-report.report c.in-Some.reply _ lines (c.in_ok-report.ensures.does shelf content) only) c.reply_told.result
+    c.reply_told.ensures.told c.reply_told.ensures.untold

@@ -1,35 +1,25 @@
-use Rattle.std.proofs.Common.{Err, ap, sym}
-use Rattle.std.proofs.lemmas.Result.{err_from_is_err_and}
-use Rattle.capture_reader.specs.Said.{lines_said}
+use Rattle.std.proofs.Common.{ℕ, List, ◌++◌, ap, ◌∙◌, arith, length}
+use Rattle.std.proofs.lemmas.List.{length-map}
+use Rattle.capture_reader.specs.Said.{line_said, lines_said}
+use Rattle.input_lines.specs.Lines.{lines_of}
+use Rattle.input_lines.proofs.Lines.{lines_are_few}
 use Rattle.foz_text.specs.LineCause.{line_cause_text}
-use Rattle.foz_tool.proofs.CaptureFile.{untaken_capture}
-use Rattle.foz_tool.proofs.RecordEnds.{is_reported, not_reported}
+use Rattle.foz_text.specs.RecordText.{record_text}
+use Rattle.foz_tool.specs.RecordRun.{status_of_answers}
+use Rattle.foz_tool.proofs.Told.{input_read, is_record_told}
 use Rattle.foz_tool.proofs.record.record.Goals as goal
 
-pub returns-in_err-input-clause-leaves : goal.returns-in_err-input-clause-leaves
-returns-in_err-input-clause-leaves g c = λ shelf images tells.
-    untaken_capture g.F.Held.Disk.content g.F.Held.Disk.history _ _ (c.laws_of_disks.ensures.is_now images)
+pub write_file-requires-clause-ready : goal.write_file-requires-clause-ready
+write_file-requires-clause-ready g c κs within =
+    let input = c.as_slice.result.now in
+    omega (arith, ap length c.new-lines.ensures, length-map (lines_of input) line_said, lines_are_few input, ap length c.as_slice.ensures, c.in_ok-capture.ensures.short)
 
-pub returns-in_err-report-clause-leaves : goal.returns-in_err-report-clause-leaves
-returns-in_err-report-clause-leaves g c = λ shelf images tells.
-    rw (sym (c.in_ok-input.ensures.reads tells).whole, sym c.as_slice.ensures) (c.in_err-report.ensures.leaves shelf images)
-
-pub returns-in_err-print_report-clause-ends : goal.returns-in_err-print_report-clause-ends
-returns-in_err-print_report-clause-ends g c = λ shelf disk output input.
-    let not = c.in_err-print_report.ensures in
-    let exit = c.from_residual-in_err-print_report in
-    let err = err_from_is_err_and exit.result exit.ensures.1 in
-    rw (err.1, err.2) (not_reported line_cause_text lines_said _ _ _ (c.in_ok-input.ensures.reads input) _ (rw (sym c.as_slice.ensures) (c.in_ok-report.ensures.ends shelf disk))
-    c.in_err-print_report.field-0.0 not.causes (λ is. not.cut_short output (ap Err is)) (λ is. not.write_fault (ap Err is)) (λ is. not.not_printed output (ap Err is)))
-
-pub returns-in_err-print_report-clause-leaves : goal.returns-in_err-print_report-clause-leaves
-returns-in_err-print_report-clause-leaves g c = λ shelf images tells.
-    rw (sym (c.in_ok-input.ensures.reads tells).whole, sym c.as_slice.ensures) (c.in_ok-report.ensures.leaves shelf images)
-
-pub returns-clause-ends : goal.returns-clause-ends
-returns-clause-ends g c = λ shelf disk output input.
-    is_reported line_cause_text lines_said _ _ _ (c.in_ok-input.ensures.reads input) _ (rw (sym c.as_slice.ensures) (c.in_ok-report.ensures.ends shelf disk)) (c.in_ok-print_report.ensures.printed output)
-
-pub returns-clause-leaves : goal.returns-clause-leaves
-returns-clause-leaves g c = λ shelf images tells.
-    rw (sym (c.in_ok-input.ensures.reads tells).whole, sym c.as_slice.ensures) (c.in_ok-report.ensures.leaves shelf images)
+pub returns-clause-makes : goal.returns-clause-makes
+returns-clause-makes g c = λ input shelf content.
+    let reads = c.in_ok-capture.ensures.reads input in
+    let lines = c.new-lines.ensures ∙ ap lines_said (c.as_slice.ensures ∙ reads.whole) in
+    let report = c.in_ok-report.report in
+    let text = c.from_vec.ensures ∙ c.in_ok-push_record.ensures.text ∙ ap (λ (l : List ℕ). l ++ record_text line_cause_text c.as_slice-2.result.now report.entries) c.new-text.ensures.items
+    ∙ ap (λ answers. record_text line_cause_text answers report.entries) c.as_slice-2.ensures in
+    is_record_told line_cause_text lines_said _ _ (input_read _ _ _ reads) _ _ report _ lines (c.in_ok-report.ensures.does shelf content) c.lines_in_order_make_a_record.ensures.apart _ _ text
+    (c.status_of_answers.ensures ∙ ap status_of_answers c.as_slice-3.ensures)

@@ -4,12 +4,12 @@ use Rattle.foz_tool.proofs.worker_laws.worker_statuses.Goals as goal
 
 pub returns : goal.returns
 returns g c = record {
-  none_other = λ before after driver driver_after status serves. none_other g.R.Driver.creates before after driver driver_after serves.taken serves.outcome status serves.answered;
-  session = λ before after driver driver_after status serves. session g.R.Driver.creates before after driver driver_after serves.taken serves.outcome status serves.session serves.answered;
-  all_well = λ before after driver driver_after status serves. all_well g.R.Driver.creates before after driver driver_after serves.taken serves.outcome status serves.comes serves.answered;
-  bad_frame = λ before after driver driver_after status serves. bad_frame g.R.Driver.creates before after driver driver_after serves.taken serves.outcome status serves.comes serves.answered;
-  exactly = λ before after driver driver_after status serves small end ends. exactly serves.taken after.input serves.outcome end status serves.comes serves.answered small ends;
-  read_fault = λ before after driver driver_after status serves. read_fault g.R.Driver.creates before after driver driver_after serves.taken serves.outcome status serves.fault serves.answered;
-  write_fault = λ before after driver driver_after status serves. write_fault g.R.Driver.creates before after driver driver_after serves.taken serves.outcome status serves.fault serves.answered;
-  cut_short = λ before after driver driver_after status serves. cut_short g.R.Driver.creates before after driver driver_after serves.taken serves.outcome status serves.session serves.answered;
+  none_other = λ before after status serves. none_other g.R.Driver.creates before after serves.taken serves.outcome status serves.answered;
+  session = λ before after status serves. session g.R.Driver.creates before after serves.taken serves.outcome status serves.session serves.answered;
+  all_well = λ before after status serves. all_well g.R.Driver.creates before after serves.taken serves.outcome status serves.comes serves.answered;
+  bad_frame = λ before after status serves. bad_frame g.R.Driver.creates before after serves.taken serves.outcome status serves.comes serves.answered;
+  exactly = λ before after status serves small end ends. exactly serves.taken after.input serves.outcome end status serves.comes serves.answered small ends;
+  read_fault = λ before after status serves. read_fault g.R.Driver.creates before after serves.taken serves.outcome status serves.fault serves.answered;
+  write_fault = λ before after status serves. write_fault g.R.Driver.creates before after serves.taken serves.outcome status serves.fault serves.answered;
+  cut_short = λ before after status serves. cut_short g.R.Driver.creates before after serves.taken serves.outcome status serves.session serves.answered;
 }

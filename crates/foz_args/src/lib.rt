@@ -1,0 +1,10 @@
+//! The words after the program's name.
+#![tactic(auto)]
+
+mod command;
+mod number;
+
+pub use command::{ArgError, Command, command_of};
+
+#[cfg(test)]
+mod tests;
