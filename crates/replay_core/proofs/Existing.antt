@@ -1,8 +1,8 @@
 -- Every plan has fates: they are found rank by rank.
-use Rattle.std.proofs.Common.{ℕ, zero, suc, ◌≡◌, ◌<◌, Bool, true, false, cond, List, [], ◌∷◌, Option, Some, None, refl, ap, sym, ◌∙◌, subst, inl, inr, ◌⊎◌, arith, take, map}
+use Rattle.std.proofs.Common.{ℕ, zero, suc, ◌≡◌, Bool, true, false, cond, List, [], ◌∷◌, Option, Some, None, refl, ap, sym, ◌∙◌, subst, take, map}
 use Rattle.std.specs.Prelude.{All, slice_get, nat_eq, ◌&&◌, IsSomeAnd}
-use Rattle.std.specs.List.{list_all, range_with_len}
-use Rattle.std.proofs.lemmas.Bool.{and_parts, and_from, eqb-true, eq-eqb, cases_Bool}
+use Rattle.std.specs.List.{range_with_len}
+use Rattle.std.proofs.lemmas.Bool.{and_parts, and_from, eqb-true}
 use Rattle.std.proofs.lemmas.List.Elements.{All-nil, All-cons, All-head, All-tail}
 use Rattle.std.proofs.lemmas.List.Sums.{AllPass-from_list_all}
 use Rattle.replay_core.specs.declared.plan.Plan.{Plan}
@@ -10,8 +10,8 @@ use Rattle.replay_core.specs.declared.plan.Dep.{Dep}
 use Rattle.replay_core.specs.declared.plan.Dep.TheVariants.{Item, Absent}
 use Rattle.replay_core.specs.declared.event.Verdict.{Verdict}
 use Rattle.replay_core.specs.declared.event.Verdict.TheVariants.{Done, Blamed, Missing}
-use Rattle.replay_core.specs.Plans.{items_of, deps_of, is_item_of, is_founded_within, Founded}
-use Rattle.replay_core.specs.Fates.{Outcome, Code, Dies, Succeeds, HasFate, IsFateList}
+use Rattle.replay_core.specs.Plans.{items_of, deps_of, is_item_of, is_founded_within}
+use Rattle.replay_core.specs.Fates.{Outcome, Code, Dies, Succeeds, HasFate}
 use Rattle.replay_core.specs.Laws.{FatesExist}
 use Rattle.replay_core.proofs.Ends.{founded_parts, not_founded_zero}
 use Rattle.replay_core.proofs.Ranks.{founded_by_items}

@@ -8,6 +8,7 @@ pub mod Prospects
 pub mod Turning
 pub mod Marking
 pub mod Lawful
+pub mod Listing
 pub mod Queueing
 pub mod Settled
 pub mod Using

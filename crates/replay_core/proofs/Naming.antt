@@ -12,8 +12,8 @@ use Rattle.replay_core.specs.declared.event.SlotState.TheVariants.{Idle}
 use Rattle.replay_core.specs.declared.answer.Next.{Next}
 use Rattle.replay_core.specs.declared.answer.Next.TheVariants as answers
 use Rattle.replay_core.specs.Runs.{slot_at, names, next_state, state_after}
-use Rattle.replay_core.specs.Histories.{History, with_events}
-use Rattle.replay_core.specs.Turns.{started, IsMiss, IsAnswer, AddsMisses, TakesTurn}
+use Rattle.replay_core.specs.Histories.{History}
+use Rattle.replay_core.specs.Turns.{started, IsMiss, IsAnswer, TakesTurn}
 use Rattle.replay_core.specs.Laws.{SlotEvents}
 
 fold_filter : (w : ℕ) (z : SlotState) (es : List Event) → fold (next_state w) z (filter (names w) es) ≡ fold (next_state w) z es

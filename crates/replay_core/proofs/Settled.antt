@@ -1,7 +1,6 @@
 -- Where nothing is left to look at.
-use Rattle.std.proofs.Common.{ℕ, ◌≡◌, ◌≢◌, ◌+◌, ◌<◌, false, cond, List, [], ◌∷◌, length, Option, Some, None, refl, ap, sym, ◌∙◌, subst, inl, inr, ◌⊎◌, arith, get_or, take, drop, Contains}
+use Rattle.std.proofs.Common.{ℕ, ◌≡◌, ◌≢◌, ◌+◌, ◌<◌, false, cond, List, [], ◌∷◌, length, Option, Some, None, refl, ap, sym, ◌∙◌, subst, inl, inr, ◌⊎◌, arith, get_or, take}
 use Rattle.std.specs.Prelude.{All, slice_get, IsSomeAnd}
-use Rattle.std.proofs.lemmas.List.{drop_all}
 use Rattle.std.proofs.lemmas.Bool.{cases_Bool, cases_order, cases_lt, eq-eqb, ne_eqb}
 use Rattle.replay_core.specs.declared.plan.Dep.{Dep}
 use Rattle.replay_core.specs.declared.plan.Dep.TheVariants.{Item}
@@ -12,20 +11,17 @@ use Rattle.replay_core.specs.declared.event.Verdict.TheVariants.{Done, Blamed}
 use Rattle.replay_core.specs.declared.event.SlotState.TheVariants.{Idle, Holds, Dead}
 use Rattle.replay_core.specs.declared.queues.Queues.{Queues}
 use Rattle.replay_core.specs.Plans.{items_of, deps_of}
-use Rattle.replay_core.specs.Runs.{Setup, slot_at, is_holding, verdict_by, verdict_of, IsMet, IsLost, IsWaiting, Allowed, NoStart, NoMiss, SomeHeld, AllDecided, IsRun}
+use Rattle.replay_core.specs.Runs.{Setup, slot_at, is_holding, verdict_of, IsMet, IsLost, IsWaiting, Allowed, NoStart, NoMiss, SomeHeld, AllDecided, IsRun}
 use Rattle.replay_core.specs.Histories.{History, with_events}
 use Rattle.replay_core.specs.Turns.{AddsMisses, SomeUndecided}
 use Rattle.replay_core.specs.Queues.{HangsAt, QueuesKept, DecidesOnly}
-use Rattle.replay_core.proofs.Steps.{run_push, slot_at-push}
+use Rattle.replay_core.proofs.Steps.{slot_at-push}
 use Rattle.replay_core.proofs.Sound.{run_is_sound, death_blames, death_judges}
 use Rattle.replay_core.proofs.Ends.{stuck_is_done}
 use Rattle.replay_core.proofs.Grounds.{met_not_lost}
 use Rattle.replay_core.proofs.Prospects.{All-at, All-at_front}
 use Rattle.replay_core.proofs.Turning.{slot_after_misses, slots_after_misses}
-use Rattle.replay_core.proofs.Queueing.{contains_later, quiet_push}
-
-none_contained : {X : Type 0} (xs : List X) (n : ℕ) (x : X) → n ≡ length xs → Contains (drop n xs) x → ⊥
-none_contained xs n x e c = let c' = subst (λ ys. Contains ys x) (drop_all n xs (omega arith)) c in absurd (omega (arith, c'.1))
+use Rattle.replay_core.proofs.Listing.{contains_later, none_contained}
 
 lost_some : (s : Setup) (es : List Event) (o : Option Dep) → IsSomeAnd o (IsLost s es) → (d : Dep) × (o ≡ Some d) × IsLost s es d
 lost_some s es None h = absurd h
@@ -44,67 +40,54 @@ hanging_no_miss s es i place p r met hangs miss =
       ]
     ]
 
-pub settled_no_miss : (h : History) (q : Queues) → QueuesKept h q → q.head ≡ length q.fresh.items → NoMiss h.setup h.events
+pub settled_no_miss : (h : History) (q : Queues) → QueuesKept h q → q.list.head ≡ length q.list.fresh.items → NoMiss h.setup h.events
 settled_no_miss h q k done i p miss =
     let w = miss.waiting in
     elim (cases_Bool (get_or q.queued.items i false)) [
       | inl on ↦ (let lost = lost_some h.setup h.events (slice_get (deps_of h.setup.plan i) p) miss.lost in
-          met_not_lost h.setup h.events k.run lost.0 (All-at (IsMet h.setup h.events) (deps_of h.setup.plan i) p lost.0 lost.1 (k.fit.queued_met i w.in_plan on)) lost.2)
-      | inr off ↦ elim (k.fit.others_hang i w off) [
-        | inl there ↦ none_contained q.fresh.items q.head i done there
-        | inr hangs ↦ hanging_no_miss h.setup h.events i _ p k.run (k.fit.progress_met i w.in_plan) hangs miss
+          met_not_lost h.setup h.events k.run lost.0 (All-at (IsMet h.setup h.events) (deps_of h.setup.plan i) p lost.0 lost.1 (k.ready.queued_met i w.in_plan on)) lost.2)
+      | inr off ↦ elim (k.kept.fit.others_hang i (w, off)) [
+        | inl there ↦ none_contained q.list.fresh.items q.list.head i done there
+        | inr hangs ↦ hanging_no_miss h.setup h.events i _ p k.run (k.kept.fit.progress_met i w.in_plan) hangs miss
       ]
     ]
 
-pub settled_no_start : (h : History) (q : Queues) (w : ℕ) → QueuesKept h q → q.head ≡ length q.fresh.items → q.taken ≡ length q.ready.items → NoStart h.setup h.events w
+pub settled_no_start : (h : History) (q : Queues) (w : ℕ) → QueuesKept h q → q.list.head ≡ length q.list.fresh.items → q.taken ≡ length q.ready.items → NoStart h.setup h.events w
 settled_no_start h q w k done taken i start =
     elim (cases_Bool (get_or q.queued.items i false)) [
-      | inl on ↦ none_contained q.ready.items q.taken i taken (k.fit.queued_ready i start.waiting on)
-      | inr off ↦ elim (k.fit.others_hang i start.waiting off) [
-        | inl there ↦ none_contained q.fresh.items q.head i done there
+      | inl on ↦ none_contained q.ready.items q.taken i taken (k.ready.queued_ready i start.waiting on)
+      | inr off ↦ elim (k.kept.fit.others_hang i (start.waiting, off)) [
+        | inl there ↦ none_contained q.list.fresh.items q.list.head i done there
         | inr hangs ↦ (let met : verdict_of h.setup h.events hangs.0 ≡ Some (Done 0) = All-at (IsMet h.setup h.events) (deps_of h.setup.plan i) _ (Item hangs.0) hangs.1 start.met in let wrong : None ≡ Some (Done 0) = sym hangs.3 ∙ met in cc)
       ]
     ]
-
--- an event that decides nothing leaves the queues as they are
-pub kept_quiet : (h new : History) (q : Queues) (e : Event) → QueuesKept h q → Allowed h.setup h.events e → ((j : ℕ) → verdict_by h.setup h.events e j ≡ None) → new ≡ with_events h (e ∷ []) → QueuesKept new q
-kept_quiet h new q e k a quiet is =
-    subst (λ (x : History). QueuesKept x q) (sym is)
-    (record { one_death = k.one_death; run = run_push h.setup h.events e k.run a; fit = quiet_push h.setup h.events e _ _ _ _ _ _ _ k.fit k.run k.one_death a quiet; ready_room = k.ready_room; fresh_room = k.fresh_room })
 
 -- the next ready item was tried, and doesn't wait
 pub kept_taken : (h : History) (q : Queues) (item : ℕ) → QueuesKept h q → q.taken < length q.ready.items → item ≡ get_or q.ready.items q.taken item → (IsWaiting h.setup h.events item → ⊥) → QueuesKept h (record q { taken = q.taken + 1 })
 kept_taken h q item k l is not_waiting = record {
   one_death = k.one_death;
   run = k.run;
-  fit = record {
-    users_len = k.fit.users_len;
-    progress_len = k.fit.progress_len;
-    queued_len = k.fit.queued_len;
-    taken_inside = omega arith;
-    head_inside = k.fit.head_inside;
-    fresh_items = k.fit.fresh_items;
-    ready_items = k.fit.ready_items;
-    users_items = k.fit.users_items;
-    users_all = k.fit.users_all;
-    progress_inside = k.fit.progress_inside;
-    progress_met = k.fit.progress_met;
-    queued_met = k.fit.queued_met;
-    queued_ready = λ i w on. elim (contains_later q.ready.items q.taken item i l (k.fit.queued_ready i w on)) [
+  kept = k.kept;
+  unpassed = k.unpassed;
+  ready = record {
+    queued_len = k.ready.queued_len;
+    taken_inside = omega (arith, l);
+    ready_items = k.ready.ready_items;
+    queued_met = k.ready.queued_met;
+    queued_ready = λ i w on. elim (contains_later q.ready.items q.taken item i l (k.ready.queued_ready i w on)) [
       | inl here ↦ absurd (not_waiting (subst (IsWaiting h.setup h.events) (sym (is ∙ here)) w))
       | inr later ↦ later
     ];
-    others_hang = k.fit.others_hang;
   };
   ready_room = k.ready_room;
-  fresh_room = k.fresh_room;
 }
 
 pub held_item_inside : (s : Setup) (es : List Event) (w i : ℕ) → IsRun s es → slot_at es w ≡ Holds i → i < items_of s.plan
 held_item_inside s es w i r h = (run_is_sound s es r).held_in_plan w i h
 
-pub reply_decides_only : (s : Setup) (es : List Event) (w i c : ℕ) → DecidesOnly s es (Reply w i c) i
-reply_decides_only s es w i c = record {
+pub reply_decides_only : (s : Setup) (es : List Event) (w i c : ℕ) → IsRun s es → slot_at es w ≡ Holds i → DecidesOnly s es (Reply w i c) i
+reply_decides_only s es w i c r h = record {
+  undecided = (run_is_sound s es r).held_undecided w i h;
   verdict = Done c;
   decides = ap (λ b. cond b (Some (Done c)) None) (eq-eqb i i refl);
   no_other = λ j apart. ap (λ b. cond b (Some (Done c)) None) (ne_eqb i j (λ e. apart (sym e)));
@@ -112,6 +95,7 @@ reply_decides_only s es w i c = record {
 
 pub death_decides_only : (s : Setup) (es : List Event) (w i : ℕ) → IsRun s es → s.deaths ≡ 1 → slot_at es w ≡ Holds i → DecidesOnly s es (Death w) i
 death_decides_only s es w i r one h = record {
+  undecided = (run_is_sound s es r).held_undecided w i h;
   verdict = Blamed;
   decides = death_blames s es w i r one h;
   no_other = λ j apart. death_judges s es w j r one ∙ ap (λ b. cond b (Some Blamed) None) (ap (λ t. is_holding t j) h ∙ ne_eqb i j (λ e. apart (sym e)));

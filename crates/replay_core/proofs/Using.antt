@@ -1,21 +1,15 @@
 -- The users of each item.
-use Rattle.std.proofs.Common.{ℕ, zero, suc, ◌≡◌, ◌+◌, ◌<◌, ◌≤◌, List, [], ◌∷◌, ◌++◌, length, Some, None, refl, ap, sym, ◌∙◌, subst, inl, inr, ◌⊎◌, arith, get_or, set, take, replicate, Bool, true, false, not, ◌^◌, get_or-set_same, get_or-set_other, Contains}
-use Rattle.std.specs.Prelude.{slice_get, sum_by, All, Vec}
+use Rattle.std.proofs.Common.{ℕ, zero, suc, ◌≡◌, ◌+◌, ◌<◌, ◌≤◌, List, [], ◌∷◌, ◌++◌, length, Some, None, refl, ap, sym, ◌∙◌, subst, inl, inr, ◌⊎◌, arith, get_or, set, take, replicate, ◌^◌, get_or-set_same, get_or-set_other, Contains}
+use Rattle.std.specs.Prelude.{slice_get, sum_by}
 use Rattle.replay_core.specs.declared.plan.Plan.{Plan}
 use Rattle.replay_core.specs.Plans.{items_of, deps_of}
-use Rattle.replay_core.specs.Runs.{IsMet, GoesOn, setup_of}
 use Rattle.std.proofs.lemmas.List.{length-set, take_more, length_push, get_or_default, get_or-replicate, length-replicate, get_or_past, get_or_append_left, get_or_push}
 use Rattle.std.proofs.lemmas.Bool.{cases_eq, cases_lt}
-use Rattle.std.proofs.lemmas.List.Elements.{Contains-append_left, Contains-push, Contains-push_cases, Contains-get_or, All-replicate, All-nil, All-from_get_or}
-use Rattle.std.proofs.lemmas.List.Sums.{sum_by-set, sum_by-le, count_by-le-length}
+use Rattle.std.proofs.lemmas.List.Elements.{Contains-append_left, Contains-push, Contains-push_cases, All-replicate}
+use Rattle.std.proofs.lemmas.List.Sums.{sum_by-set, sum_by-le}
 use Rattle.replay_core.specs.declared.plan.Dep.{Dep}
 use Rattle.replay_core.specs.declared.plan.Dep.TheVariants.{Item}
-use Rattle.replay_core.specs.Queues.{AddsUsers, AreUsers, IsUpTo, QueuesFit, QueuesKept, rows_of}
-use Rattle.replay_core.specs.declared.queues.Queues.{Queues}
-use Rattle.replay_core.specs.Histories.{at_first}
-use Rattle.std.specs.Vec.{vec_capacity}
-use Rattle.std.specs.Global.{Global}
-use Rattle.std.proofs.lemmas.List.Folds.{fold-map}
+use Rattle.replay_core.specs.Worklists.{AddsUsers, AreUsers, IsUpTo}
 
 get_push : (xs : List Dep) (y : Dep) (p : ℕ) (z : Dep) → slice_get (xs ++ y ∷ []) p ≡ Some z → (slice_get xs p ≡ Some z) ⊎ (y ≡ z)
 get_push [] y zero z h = inr (let e : Some y ≡ Some z = h in cc)
@@ -101,53 +95,8 @@ users_more plan mid new deps i a b is short = record {
   few = omega (arith, a.few, b.few, short);
 }
 
--- the queues before any event
-pub fit_at_first : (plan : Plan) (slots : ℕ) (users : List (List ℕ)) (progress : List ℕ) (queued : List Bool) (fresh : List ℕ) → AreUsers plan (items_of plan) users → progress ≡ replicate (items_of plan) 0 → queued ≡ replicate (items_of plan) false → IsUpTo (items_of plan) fresh →
-    QueuesFit (setup_of plan slots) [] users progress queued [] 0 fresh 0
-fit_at_first plan slots users progress queued fresh a hp hq hf =
-    let n = items_of plan in
-    let zeros : (i : ℕ) → i < n → get_or progress i 0 ≡ 0 = λ i l. ap (λ xs. get_or xs i 0) hp ∙ get_or-replicate n i 0 0 l in
-    let offs : (i : ℕ) → i < n → get_or queued i false ≡ false = λ i l. ap (λ xs. get_or xs i false) hq ∙ get_or-replicate n i false false l in
-    record {
-      users_len = a.same_length;
-      progress_len = ap length hp ∙ length-replicate n 0;
-      queued_len = ap length hq ∙ length-replicate n false;
-      taken_inside = omega arith;
-      head_inside = omega arith;
-      fresh_items = All-from_get_or (λ i. i < n) fresh 0 (λ i l. subst (λ x. x < n) (sym (hf.1 i (omega (arith, hf.0)))) (omega (arith, hf.0)));
-      ready_items = All-nil (λ i. (i < n) × (get_or queued i false ≡ true));
-      users_items = λ k d l. All-from_get_or (λ i. i < n) _ 0 (λ i m. a.items k _ (subst (λ row. Contains row (get_or (get_or users k d) i 0)) (get_or_default users k d [] l) (Contains-get_or (get_or users k d) i 0 m)));
-      users_all = λ i p j l h u. a.all i p j l h;
-      progress_inside = λ i l. rw (zeros i l) (omega arith);
-      progress_met = λ i l. subst (λ m. All (IsMet (setup_of plan slots) []) (take m (deps_of plan i))) (sym (zeros i l)) (All-nil (IsMet (setup_of plan slots) []));
-      queued_met = λ i l h. absurd (let wrong : false ≡ true = sym (offs i l) ∙ h in cc);
-      queued_ready = λ i w h. absurd (let wrong : false ≡ true = sym (offs i w.in_plan) ∙ h in cc);
-      others_hang = λ i w h. inl (subst (Contains fresh) (hf.1 i w.in_plan) (Contains-get_or fresh i 0 (omega (arith, hf.0, w.in_plan))));
-    }
-
 pub upto_push : (n : ℕ) (xs : List ℕ) → IsUpTo n xs → IsUpTo (n + 1) (xs ++ n ∷ [])
 upto_push n xs h = (
   length_push xs n ∙ ap (λ m. m + 1) h.0,
   λ i l. elim (cases_lt i n) [ inl before ↦ get_or_append_left xs (n ∷ []) 0 i (omega (arith, h.0)) ∙ h.1 i before | inr here ↦ (let same : i ≡ n = omega arith in ap (λ k. get_or (xs ++ n ∷ []) k 0) same ∙ (get_or_push xs n 0 n h.0 ∙ sym same)) ],
 )
-
-pub kept_at_first : (plan : Plan) (slots : ℕ) (q : Queues) (room : ℕ) → AreUsers plan (items_of plan) (rows_of q.users) → q.progress.items ≡ replicate (items_of plan) 0 → q.queued.items ≡ replicate (items_of plan) false → q.ready.items ≡ [] → q.taken ≡ 0 → IsUpTo (items_of plan) q.fresh.items → q.head ≡ 0 →
-    items_of plan ≤ vec_capacity q.ready → items_of plan + room ≤ vec_capacity q.fresh → room ≡ sum_by (λ (v : Vec ℕ Global). length v.items) q.users.items → QueuesKept (at_first plan slots) q
-unfolding GoesOn
-kept_at_first plan slots q room a hp hq hr ht hf hh ready fresh is = record {
-  one_death = refl;
-  run = tt;
-  fit =
-      subst (λ n. QueuesFit (setup_of plan slots) [] (rows_of q.users) q.progress.items q.queued.items q.ready.items q.taken q.fresh.items n) (sym hh)
-      (subst (λ n. QueuesFit (setup_of plan slots) [] (rows_of q.users) q.progress.items q.queued.items q.ready.items n q.fresh.items 0) (sym ht)
-      (subst (λ xs. QueuesFit (setup_of plan slots) [] (rows_of q.users) q.progress.items q.queued.items xs 0 q.fresh.items 0) (sym hr)
-      (fit_at_first plan slots (rows_of q.users) q.progress.items q.queued.items q.fresh.items a hp hq hf)));
-  ready_room =
-      let few = count_by-le-length not q.queued.items in
-      let len : length q.queued.items ≡ items_of plan = ap length hq ∙ length-replicate (items_of plan) false in
-      let none : length q.ready.items ≡ 0 = ap length hr in
-      omega (arith, few, len, none, ready);
-  fresh_room =
-      let total : sum_by length (rows_of q.users) ≡ sum_by (λ (v : Vec ℕ Global). length v.items) q.users.items = fold-map (λ a (x : List ℕ). a + length x) (λ (v : Vec ℕ Global). v.items) 0 q.users.items in
-      omega (arith, total, is, fresh, hf.0);
-}

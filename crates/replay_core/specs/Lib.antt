@@ -6,6 +6,7 @@ pub mod Notes
 pub mod Turns
 pub mod Fates
 pub mod Laws
+pub mod Worklists
 pub mod Queues
 pub mod Counting
 pub mod Searching

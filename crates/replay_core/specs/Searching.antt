@@ -1,11 +1,10 @@
--- The search for the founded items: what it has marked, and what it still has to look at.
-use Rattle.std.specs.Prelude.{ℕ, ◌≡◌, ◌++◌, ◌+◌, ◌<◌, ◌≤◌, ◌⊎◌, All, Contains, Bool, true, false, List, [], length, drop, take, slice_get, slice_index_or, Some, sum_by}
-use Rattle.replay_core.specs.declared.founded.Search.{Search}
+-- The search for the founded items: which it has marked, and where the others stop.
+use Rattle.std.specs.Prelude.{ℕ, ◌≡◌, ◌<◌, All, Bool, true, false, List, slice_get, slice_index_or, Some}
+use Rattle.replay_core.specs.declared.worklist.Worklist.{Worklist}
 use Rattle.replay_core.specs.declared.plan.Plan.{Plan}
 use Rattle.replay_core.specs.declared.plan.Dep.{Dep}
-use Rattle.replay_core.specs.declared.plan.Dep.TheVariants.{Item}
 use Rattle.replay_core.specs.Plans.{items_of, deps_of, is_item_of, Founded}
-use Rattle.replay_core.specs.Queues.{rows_of}
+use Rattle.replay_core.specs.Worklists.{IsList}
 
 -- the item is marked
 abbrev pub is_marked_in : List Bool → ℕ → Bool
@@ -26,36 +25,23 @@ IsClosed plan marks = (i : ℕ) → i < items_of plan → All (IsMarked marks) (
 abbrev pub MarkedFounded : Plan → List Bool → Type 0
 MarkedFounded plan marks = (k : ℕ) → k < items_of plan → is_marked_in marks k ≡ true → Founded plan k
 
+-- an item of the plan that is not marked
+abbrev pub IsUnmarked : Plan → List Bool → ℕ → Type 0
+IsUnmarked plan marks i = (i < items_of plan) × (is_marked_in marks i ≡ false)
+
 -- the dependency at the place is no marked item
 abbrev pub StopsAt : List Bool → List Dep → ℕ → Type 0
 StopsAt marks deps place = (d : Dep) × (slice_get deps place ≡ Some d) × (is_marked_dep marks d ≡ false)
 
--- users: for each item that is not marked those that depend on it; progress: for each item how many of its dependencies are known to be marked;
--- fresh: the items to look at, of which the first `head` were
-pub record SearchFits (plan : Plan) (marks : List Bool) (users : List (List ℕ)) (progress : List ℕ) (fresh : List ℕ) (head : ℕ) : Type 0 where
-  pub marks_len : length marks ≡ items_of plan
-  pub users_len : length users ≡ items_of plan
-  pub progress_len : length progress ≡ items_of plan
-  pub head_inside : head ≤ length fresh
-  pub fresh_items : All (λ i. i < items_of plan) fresh
-  pub users_items : All (All (λ i. i < items_of plan)) users
-  pub users_all : (i p j : ℕ) → i < items_of plan → slice_get (deps_of plan i) p ≡ Some (Item j) → is_marked_in marks j ≡ false → Contains (slice_index_or users j []) i
-  pub progress_inside : (i : ℕ) → i < items_of plan → slice_index_or progress i 0 ≤ length (deps_of plan i)
-  pub progress_marked : (i : ℕ) → i < items_of plan → All (IsMarked marks) (take (slice_index_or progress i 0) (deps_of plan i))
-  pub founded : MarkedFounded plan marks
-  pub others_stop : (i : ℕ) → i < items_of plan → is_marked_in marks i ≡ false → Contains (drop head fresh) i ⊎ StopsAt marks (deps_of plan i) (slice_index_or progress i 0)
+-- the item stops at the place among its dependencies
+abbrev pub ItemStops : Plan → List Bool → ℕ → ℕ → Type 0
+ItemStops plan marks place i = StopsAt marks (deps_of plan i) place
 
-abbrev pub IsSearch : Plan → Search → Type 0
-IsSearch plan s = SearchFits plan s.marks.items (rows_of s.users) s.progress.items s.fresh.items s.head
-
--- how many looks there are in all, those that are still to be called for among them
-abbrev pub looks_of : Search → ℕ
-looks_of s = length s.fresh.items + sum_by length (rows_of s.users)
-
--- what was to be looked at stays in its place
-abbrev pub GrowsFresh : Search → Search → Type 0
-GrowsFresh old new = (more : List ℕ) × (new.fresh.items ≡ old.fresh.items ++ more)
+-- The list's items that were passed on are the marked ones.
+pub record IsSearch (plan : Plan) (list : Worklist) : Type 0 where
+  pub kept : IsList plan (IsMarked list.passed.items) (IsUnmarked plan list.passed.items) (ItemStops plan list.passed.items) list
+  pub founded : MarkedFounded plan list.passed.items
 
 -- the item is marked, or stops at a dependency that is not
-abbrev pub WasLookedAt : Plan → Search → ℕ → Type 0
-WasLookedAt plan s i = is_marked_in s.marks.items i ≡ false → StopsAt s.marks.items (deps_of plan i) (slice_index_or s.progress.items i 0)
+abbrev pub WasLookedAt : Plan → Worklist → ℕ → Type 0
+WasLookedAt plan list i = is_marked_in list.passed.items i ≡ false → ItemStops plan list.passed.items (slice_index_or list.progress.items i 0) i

@@ -1,23 +1,13 @@
-ghost use Rattle.std.specs.Prelude.{◌≡◌, ◌<◌, ◌≤◌, length, take, All, IfOk, OnOk};
-ghost use Rattle.replay_core.specs.Plans.{items_of, deps_of};
+ghost use Rattle.std.specs.Prelude.{◌≡◌, ◌<◌, ◌≤◌, length, take, All, IfOk};
+ghost use Rattle.replay_core.specs.Plans.{items_of};
 ghost use Rattle.replay_core.specs.Histories.{IsInRange, IsPlan};
 ghost use Rattle.replay_core.specs.Notes.{MarksFounded};
-ghost use Rattle.replay_core.specs.Searching.{is_marked_dep, is_marked_in, looks_of, GrowsFresh, IsMarked, IsSearch, StopsAt, WasLookedAt};
+ghost use Rattle.replay_core.specs.Searching.{is_marked_dep, IsMarked, IsSearch, StopsAt, WasLookedAt};
+ghost use Rattle.replay_core.specs.Worklists.{rows_of, work_of, AreUsers, ListGrows};
 
 use crate::plan::{Dep, Plan};
-use crate::users::{all_items, users_of};
+use crate::worklist::{Worklist, pass_on, worklist_over};
 use std::alloc::{AllocError, Global};
-
-/// The search for the founded items. An item is looked at once at first, and again when what it stopped at is marked,
-/// and each look goes on where the last one stopped: so the search is linear in the plan, whatever the order of items.
-#[derive(Drop)]
-pub struct Search {
-    pub marks: Vec<bool>,
-    pub users: Vec<Vec<u32>>,
-    pub progress: Vec<u32>,
-    pub fresh: Vec<u32>,
-    pub head: usize,
-}
 
 /// The dependency is an item that is marked.
 fn is_marked(dep: Dep, marks: &[bool]) -> bool
@@ -47,78 +37,47 @@ fn first_unmarked(deps: &[Dep], from: usize, marks: &[bool]) -> usize
     deps.len()
 }
 
-/// Marks an item whose dependencies are marked. Its users are to be looked at.
-fn mark(plan: &Plan, search: &mut Search, item: u32) -> Result<(), AllocError>
+/// Looks at an item: it is marked, or stops at a dependency that is not. An item is marked as it is passed on.
+fn look_at(plan: &Plan, list: &mut Worklist, item: u32)
     requires plan { IsPlan plan.now }
-    requires fits { IsSearch plan.now search.old }
+    requires fits { IsSearch plan.now list.old }
     requires inside { item < items_of plan.now }
-    requires deps { All (IsMarked search.old.marks.items) (deps_of plan.now item) }
-    ensures fits { OnOk result (IsSearch plan.now search.new) }
-    ensures looked { OnOk result (WasLookedAt plan.now search.new item) }
-    ensures head { OnOk result (search.new.head ≡ search.old.head) }
-    ensures fresh { OnOk result (GrowsFresh search.old search.new) }
-    ensures looks { OnOk result (looks_of search.new ≡ looks_of search.old) }
+    ensures fits { IsSearch plan.now list.new }
+    ensures looked { WasLookedAt plan.now list.new item }
+    ensures head { list.new.head ≡ list.old.head }
+    ensures fresh { ListGrows list.old list.new }
+    ensures work { work_of list.new ≡ work_of list.old }
 {
-    search.marks[item as usize] = true;
-    let row = &mut search.users[item as usize];
-    search.fresh.append(row)?;
-    Ok(())
-}
-
-/// Looks at an item: it is marked, or stops at a dependency that is not.
-fn look_at(plan: &Plan, search: &mut Search, item: u32) -> Result<(), AllocError>
-    requires plan { IsPlan plan.now }
-    requires fits { IsSearch plan.now search.old }
-    requires inside { item < items_of plan.now }
-    ensures fits { OnOk result (IsSearch plan.now search.new) }
-    ensures looked { OnOk result (WasLookedAt plan.now search.new item) }
-    ensures head { OnOk result (search.new.head ≡ search.old.head) }
-    ensures fresh { OnOk result (GrowsFresh search.old search.new) }
-    ensures looks { OnOk result (looks_of search.new ≡ looks_of search.old) }
-{
-    if search.marks[item as usize] {
-        return Ok(());
+    if list.passed[item as usize] {
+        return;
     }
     let rows = plan.deps.as_slice();
     let deps = rows[item as usize].as_slice();
-    let from = search.progress[item as usize] as usize;
-    let place = first_unmarked(deps, from, search.marks.as_slice());
+    let from = list.progress[item as usize] as usize;
+    let place = first_unmarked(deps, from, list.passed.as_slice());
     if place == deps.len() {
-        return mark(plan, search, item);
+        pass_on(list, item);
+        return;
     }
-    search.progress[item as usize] = place as u32;
-    Ok(())
+    list.progress[item as usize] = place as u32;
 }
 
-/// The search before any look.
-fn search_at_first(alloc: Global, plan: &Plan) -> Result<Search, AllocError>
-    requires { IsPlan plan.now }
-    ensures { IfOk result (IsSearch plan.now) }
+/// Searches for the founded items, given the users of each item: they are those that the list has passed on in the end.
+pub fn search_founded(
+    alloc: Global,
+    plan: &Plan,
+    users: Vec<Vec<u32>>,
+) -> Result<Worklist, AllocError>
+    requires plan { IsPlan plan.now }
+    requires users { AreUsers plan.now (items_of plan.now) (rows_of users) }
+    ensures founded { IfOk result (λ list. MarksFounded plan.now list.passed.items) }
+    ensures users { IfOk result (λ list. AreUsers plan.now (items_of plan.now) (rows_of list.users)) }
 {
-    let items = plan.deps.len();
-    let users = users_of(alloc, plan)?;
-    let marks = vec![in alloc; false; items]?;
-    let progress = vec![in alloc; 0; items]?;
-    let fresh = all_items(alloc, items as u32, 0)?;
-    Ok(Search {
-        marks,
-        users,
-        progress,
-        fresh,
-        head: 0,
-    })
-}
-
-/// Marks the items that are founded.
-pub fn founded_marks(alloc: Global, plan: &Plan) -> Result<Vec<bool>, AllocError>
-    requires { IsPlan plan.now }
-    ensures { IfOk result (λ marks. MarksFounded plan.now marks.items) }
-{
-    let mut search = search_at_first(alloc, plan)?;
-    while search.head < search.fresh.len() {
-        let item = search.fresh[search.head];
-        look_at(plan, &mut search, item)?;
-        search.head += 1;
+    let mut list = worklist_over(alloc, plan, users)?;
+    while list.head < list.fresh.len() {
+        let item = list.fresh[list.head];
+        look_at(plan, &mut list, item);
+        list.head += 1;
     }
-    Ok(search.marks)
+    Ok(list)
 }

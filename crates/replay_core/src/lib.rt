@@ -14,14 +14,15 @@ mod record;
 mod scheduler;
 mod turn;
 mod users;
+mod worklist;
 
 pub use answer::Next;
 pub use counts::Counts;
 pub use event::{Event, SlotState, Verdict};
 pub use laws::{
-    blamed_in_hands, fates_are_unique, fates_exist, founded_is_least, one_verdict, ranks_fall,
-    restarts_follow_deaths, same_outcomes_same_verdicts, same_replies_same_verdicts, slot_events,
-    starts_after_dependencies, stuck_is_done, verdicts_are_fates,
+    blamed_in_hands, decided_stays, fates_are_unique, fates_exist, founded_is_least, one_verdict,
+    ranks_fall, restarts_follow_deaths, same_outcomes_same_verdicts, same_replies_same_verdicts,
+    slot_events, starts_after_dependencies, stuck_is_done, verdicts_are_fates,
 };
 pub use plan::{Dep, Plan};
 pub use scheduler::Core;

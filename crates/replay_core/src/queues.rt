@@ -1,30 +1,43 @@
-ghost use Rattle.std.specs.Prelude.{◌≡◌, ◌<◌, ◌≤◌, ◌+◌, ◌++◌, [], length, slice_index_or, slice_set, sum_by, vec_capacity};
-ghost use Rattle.replay_core.specs.Queues.{rows};
+ghost use Rattle.std.specs.Prelude.{ℕ, IfOk};
+ghost use Rattle.replay_core.specs.Plans.{items_of};
+ghost use Rattle.replay_core.specs.Histories.{at_first, IsPlan};
+ghost use Rattle.replay_core.specs.Queues.{QueuesKept};
+ghost use Rattle.replay_core.specs.Worklists.{AreUsers, rows_of};
+
+use crate::plan::Plan;
+use crate::worklist::{Worklist, worklist_over};
+use std::alloc::{AllocError, Global};
 
 /// Which items are to be looked at, and which are ready, so that no call searches through all items.
 #[derive(Debug, Drop)]
 pub struct Queues {
-    pub users: Vec<Vec<u32>>,
-    pub progress: Vec<u32>,
+    /// Decided items are passed on.
+    pub list: Worklist,
+    /// The items that were found ready.
     pub queued: Vec<bool>,
+    /// They in their order, of which the first `taken` were tried.
     pub ready: Vec<u32>,
     pub taken: usize,
-    pub fresh: Vec<u32>,
-    pub head: usize,
 }
 
-/// The item is decided: those that depend on it are to be looked at.
-pub fn pass_on(queues: &mut Queues, item: u32)
-    requires inside { item < length queues.old.users.items }
-    requires room { length queues.old.fresh.items + sum_by length (rows queues.old) ≤ vec_capacity queues.old.fresh }
-    ensures fresh { queues.new.fresh.items ≡ queues.old.fresh.items ++ slice_index_or (rows queues.old) item [] }
-    ensures users { rows queues.new ≡ slice_set (rows queues.old) item [] }
-    ensures room { vec_capacity queues.old.fresh ≤ vec_capacity queues.new.fresh }
-    ensures rest { queues.new ≡ record queues.old { users = queues.new.users; fresh = queues.new.fresh } }
+/// The queues before any event, over the users of each item.
+pub fn queues_at_first(
+    alloc: Global,
+    plan: &Plan,
+    users: Vec<Vec<u32>>,
+) -> Result<Queues, AllocError>
+    requires plan { IsPlan plan.now }
+    requires users { AreUsers plan.now (items_of plan.now) (rows_of users) }
+    ensures { (slots : ℕ) → IfOk result (QueuesKept (at_first plan.now slots)) }
 {
-    let row = &mut queues.users[item as usize];
-    match queues.fresh.append(row) {
-        Ok(()) => (),
-        Err(_) => unreachable!(),
-    }
+    let items = plan.deps.len();
+    let list = worklist_over(alloc, plan, users)?;
+    let queued = vec![in alloc; false; items]?;
+    let ready = Vec::with_capacity(alloc, items)?;
+    Ok(Queues {
+        list,
+        queued,
+        ready,
+        taken: 0,
+    })
 }

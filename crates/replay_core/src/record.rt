@@ -2,12 +2,11 @@ ghost use Rattle.std.specs.Prelude.{◌≡◌, ◌∷◌, [], ◌<◌, ◌≤◌
 ghost use Rattle.replay_core.specs.Plans.{items_of, deps_of};
 ghost use Rattle.replay_core.specs.Runs.{Allowed, AllDecided, IsMet, IsWaiting, SomeHeld, slot_at, verdict_list, IsRun};
 ghost use Rattle.replay_core.specs.Histories.{with_events, room_of, at_first, IsPlan};
-ghost use Rattle.replay_core.specs.Notes.{IsProspect};
+ghost use Rattle.replay_core.specs.Notes.{IsProspect, MarksFounded};
 ghost use Rattle.replay_core.specs.Counting.{IsCountOf};
 
 use crate::counts::{Counts, counts_at_first, counts_with_decided, counts_with_event};
 use crate::event::{Event, SlotState, Verdict};
-use crate::founded::founded_marks;
 use crate::notes::{is_held, judge, note_state, note_verdict};
 use crate::plan::Plan;
 use crate::prospect::{Prospect, prospect_of};
@@ -41,15 +40,20 @@ impl Model for Record {
 }
 
 impl Record {
-    /// A scheduler over idle slots, with room for all events that can come.
-    pub fn new(alloc: Global, plan: Plan, slots: u32) -> Result<Record, NoMemory>
+    /// A scheduler over idle slots, with room for all events that can come. `founded` says which items are founded.
+    pub fn new(
+        alloc: Global,
+        plan: Plan,
+        founded: Vec<bool>,
+        slots: u32,
+    ) -> Result<Record, NoMemory>
         requires plan { IsPlan plan }
+        requires founded { MarksFounded plan founded.items }
         requires some_slot { 0 < slots }
         requires few_slots { slots ≤ 16 }
         ensures { IfOk result (λ core. core ≡ at_first plan slots) }
     {
         let items = plan.deps.len();
-        let founded = founded_marks(alloc, &plan)?;
         let states = vec![in alloc; SlotState::Idle; slots as usize]?;
         let verdicts = vec![in alloc; None; items]?;
         let events = Vec::with_capacity(alloc, 3 * items + slots as usize)?;
@@ -135,6 +139,7 @@ impl Record {
         ensures room { result ≡ room_of self.now.setup }
         ensures never_passed { length self.now.events ≤ result }
         ensures few { result ≤ 3145744 }
+        ensures slots { self.now.setup.slots ≤ 16 }
     {
         3 * self.verdicts.len() as u64 + self.states.len() as u64
     }

@@ -7,11 +7,12 @@ ghost use Rattle.replay_core.specs.Turns.{state_told, IsFoundedWork, TakesTurn};
 use crate::answer::Next;
 use crate::counts::Counts;
 use crate::event::{Event, SlotState, Verdict};
+use crate::founded::search_founded;
 use crate::plan::Plan;
-use crate::queues::Queues;
+use crate::queues::{Queues, queues_at_first};
 use crate::record::Record;
 use crate::turn::{decide, first_ready, settle};
-use crate::users::queues_at_first;
+use crate::users::users_of;
 use foz_words::NoMemory;
 use std::alloc::Global;
 use std::marker::Model;
@@ -42,8 +43,10 @@ impl Core {
         requires few_slots { slots ≤ 16 }
         ensures { IfOk result (λ core. core ≡ at_first plan slots) }
     {
-        let queues = queues_at_first(alloc, &plan)?;
-        let record = Record::new(alloc, plan, slots)?;
+        let users = users_of(alloc, &plan)?;
+        let searched = search_founded(alloc, &plan, users)?;
+        let queues = queues_at_first(alloc, &plan, searched.users)?;
+        let record = Record::new(alloc, plan, searched.passed, slots)?;
         Ok(Core { record, queues })
     }
 
@@ -121,6 +124,7 @@ impl Core {
         ensures room { result ≡ room_of self.now.setup }
         ensures never_passed { length self.now.events ≤ result }
         ensures few { result ≤ 3145744 }
+        ensures slots { self.now.setup.slots ≤ 16 }
     {
         self.record.room()
     }

@@ -8,7 +8,7 @@ pub returns-then-index-clause-misses : goal.returns-then-index-clause-misses
 returns-then-index-clause-misses c = misses_nil c.args.story.now
 
 pub decide-requires-clause-decides : goal.decide-requires-clause-decides
-decide-requires-clause-decides c = miss_decides c.args.story.now.setup c.args.story.now.events c.args.item c.in-Lost.place
+decide-requires-clause-decides c = miss_decides c.args.story.now.setup c.args.story.now.events c.args.item c.in-Lost.place (c.if-not-is_waiting.ensures.0 refl)
 
 pub returns-in-Ok-clause-kept : goal.returns-in-Ok-clause-kept
 returns-in-Ok-clause-kept c =
@@ -23,7 +23,7 @@ returns-in-Lost-clause-misses c =
     (record { waiting = c.if-not-is_waiting.ensures.0 refl; met = c.in-Lost.ensures.0.0; lost = c.in-Lost.ensures.0.1 }) c.decide.ensures.added
 
 pub returns-in-Lost-clause-looked : goal.returns-in-Lost-clause-looked
-returns-in-Lost-clause-looked c = λ waiting off. absurd (decided_not_waiting c.args.story.now c.decide.new.story (Miss c.args.item c.in-Lost.place) c.args.item (miss_decides c.args.story.now.setup c.args.story.now.events c.args.item c.in-Lost.place) c.decide.ensures.added waiting)
+returns-in-Lost-clause-looked c = λ waiting off. absurd (decided_not_waiting c.args.story.now c.decide.new.story (Miss c.args.item c.in-Lost.place) c.args.item (miss_decides c.args.story.now.setup c.args.story.now.events c.args.item c.in-Lost.place (c.if-not-is_waiting.ensures.0 refl)) c.decide.ensures.added waiting)
 
 pub returns-in-Pending-clause-kept : goal.returns-in-Pending-clause-kept
 returns-in-Pending-clause-kept c =

@@ -4,7 +4,7 @@ use Rattle.std.specs.Global.{Global}
 use Rattle.std.proofs.lemmas.List.{map-set, get_or-map, length-map, get_or_default}
 use Rattle.replay_core.specs.declared.plan.Dep.TheVariants.{Item}
 use Rattle.replay_core.specs.Histories.{IsInRange}
-use Rattle.replay_core.specs.Queues.{rows_of, AddsUsers}
+use Rattle.replay_core.specs.Worklists.{rows_of, AddsUsers}
 use Rattle.replay_core.proofs.Using.{users_push, users_skip, get_or_default_item}
 use Rattle.replay_core.proofs.users.add_users.Goals as goal
 use Rattle.replay_core.proofs.users.add_users.Goals.{in-Item+in_ok-push, in_default}

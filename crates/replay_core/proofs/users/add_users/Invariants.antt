@@ -1,5 +1,5 @@
 use Rattle.std.specs.Prelude.{take}
-use Rattle.replay_core.specs.Queues.{AddsUsers, rows_of}
+use Rattle.replay_core.specs.Worklists.{AddsUsers, rows_of}
 use Rattle.replay_core.proofs.users.add_users.Given as goal
 
 abbrev pub invariant-loop-dep : goal.invariant-loop-dep

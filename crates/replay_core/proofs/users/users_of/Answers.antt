@@ -1,7 +1,7 @@
 use Rattle.std.proofs.Common.{◌≡◌, ◌<◌, ◌^◌, [], length, get_or, sym, subst, ap, ◌∙◌}
 use Rattle.std.proofs.lemmas.List.{get_or_default}
 use Rattle.replay_core.specs.Plans.{items_of, deps_of}
-use Rattle.replay_core.specs.Queues.{rows_of}
+use Rattle.replay_core.specs.Worklists.{rows_of}
 use Rattle.replay_core.proofs.Using.{users_more}
 use Rattle.replay_core.proofs.users.users_of.Goals as goal
 

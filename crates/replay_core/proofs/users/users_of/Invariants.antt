@@ -1,5 +1,5 @@
 use Rattle.std.proofs.Common.{List, ℕ, ◌≡◌, [], replicate}
-use Rattle.replay_core.specs.Queues.{AreUsers, rows_of}
+use Rattle.replay_core.specs.Worklists.{AreUsers, rows_of}
 use Rattle.replay_core.proofs.users.users_of.Given as goal
 
 abbrev pub invariant-loop-row : goal.invariant-loop-row

@@ -7,7 +7,8 @@ use Rattle.replay_core.specs.Turns.{state_told, IsFoundedWork, AddsMisses, Takes
 use Rattle.replay_core.specs.Plans.{Founded}
 use Rattle.replay_core.proofs.Grounds.{ready_founded}
 use Rattle.replay_core.proofs.Turning.{no_miss_after_start, undecided_after_start}
-use Rattle.replay_core.proofs.Settled.{settled_no_miss, settled_no_start, kept_quiet, kept_taken, idle_told, asks_on, setup_on, started_holds, started_not_waiting}
+use Rattle.replay_core.proofs.Queueing.{kept_quiet}
+use Rattle.replay_core.proofs.Settled.{settled_no_miss, settled_no_start, kept_taken, idle_told, asks_on, setup_on, started_holds, started_not_waiting}
 use Rattle.replay_core.proofs.scheduler.Core.next.Goals as goal
 use Rattle.replay_core.proofs.scheduler.Core.next.Goals.{After-settle, In-Some, In_default, then-all_decided, else-all_decided}
 

@@ -3,7 +3,8 @@ use Rattle.replay_core.specs.declared.event.Event.TheVariants.{Restart}
 use Rattle.replay_core.specs.declared.event.SlotState.TheVariants.{Dead}
 use Rattle.replay_core.specs.Runs.{slot_at, Allowed}
 use Rattle.replay_core.specs.Histories.{History}
-use Rattle.replay_core.proofs.Settled.{kept_quiet, dead_inside}
+use Rattle.replay_core.proofs.Queueing.{kept_quiet}
+use Rattle.replay_core.proofs.Settled.{dead_inside}
 use Rattle.replay_core.proofs.scheduler.Core.restart.Goals as goal
 use Rattle.replay_core.proofs.scheduler.Core.restart.Goals.{After-self}
 

@@ -2,7 +2,7 @@ use Rattle.std.proofs.Common.{refl, sym, subst}
 use Rattle.replay_core.specs.declared.event.Event.TheVariants.{Retire}
 use Rattle.replay_core.specs.Runs.{Allowed}
 use Rattle.replay_core.specs.Histories.{History}
-use Rattle.replay_core.proofs.Settled.{kept_quiet}
+use Rattle.replay_core.proofs.Queueing.{kept_quiet}
 use Rattle.replay_core.proofs.scheduler.Core.retire.Goals as goal
 
 pub invariant_of-self : goal.invariant_of-self
