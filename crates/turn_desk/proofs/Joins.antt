@@ -1,17 +1,19 @@
 -- Splitting and joining keep the desk's rule, and what a look and the close learn from it.
 use Rattle.std.proofs.Common.{◌≡◌, ◌≢◌, ℕ, zero, suc, ◌+◌, ◌-◌, ◌<◌, ◌≤◌, ◌⊎◌, Bool, true, false, cond, List, [], ◌∷◌, ◌++◌, length, drop, set, get_or, count_by, Option, Some, None, sym, refl, ap, ◌∙◌, subst, inl, inr, ⊎_elim, append-nil, length-append, length-set, arith, true≢false}
+use mathlib.Core.List.{IsPrefix}
 use mathlib.Core.Option as place
 use mathlib.Core.Logic.{dite}
 use native.Mathlib.Decide.{dec_lt}
 use lib.ListN.{get_elem?}
+use base.Growing.{prefix_trans}
 use Rattle.atomic_table.specs.Table.{State, Me, step, keeps, Allows, Splits, Joins, Final, Seen}
 use Rattle.atomic_table.proofs.Lists.{at_set, set_else, set_here, at_longer, at_last}
 use Rattle.turn_desk.specs.declared.view.View.{View}
 use Rattle.turn_desk.specs.declared.view.Joined.{Joined}
-use Rattle.turn_desk.specs.Story.{StartsWith, notes_of, longer, split_from, split_off, joined_with, spent, IsJoined, AreApart, HasAllBack, HasKept, HasHeard, IsAllOf}
+use Rattle.turn_desk.specs.Story.{notes_of, longer, split_from, split_off, joined_with, spent, IsJoined, AreApart, HasAllBack, HasKept, HasHeard, IsAllOf}
 use Rattle.turn_desk.specs.Turns.{Fits, IsRoot, Turn, at_home, taken, IsKept, Knows, looked}
 use Rattle.turn_desk.proofs.Keeps.{stays}
-use Rattle.turn_desk.proofs.Notes.{starts_trans, notes_append, notes_between, notes_none, notes_there, notes_head, nothing_more, longer_starts, longer_one, at_snoc_place, at_below, at_one, at_exists, count_set, count_same, count_append, count_some, count_one}
+use Rattle.turn_desk.proofs.Notes.{notes_append, notes_between, notes_none, notes_there, notes_head, nothing_more, longer_is_prefix, longer_one, at_snoc_place, at_below, at_one, at_exists, count_set, count_same, count_append, count_some, count_one}
 
 module _ {X N O : Type 0} (story : X → List N) (origin : X → O) (number : N → ℕ) (known : O) where
   abbrev V : Type 0
@@ -145,11 +147,11 @@ module _ {X N O : Type 0} (story : X → List N) (origin : X → O) (number : N 
     abbrev seen_after : List N
     seen_after = longer v.seen w.seen
 
-    starts : StartsWith r.log seen_after × StartsWith seen_after w.seen
-    starts = longer_starts r.log v.seen w.seen mine_v.begins mine_w.begins
+    prefixes : IsPrefix seen_after r.log × IsPrefix w.seen seen_after
+    prefixes = longer_is_prefix r.log v.seen w.seen mine_v.begins mine_w.begins
 
-    starts_v : StartsWith seen_after v.seen
-    starts_v = (drop (length v.seen) w.seen, refl)
+    prefix_v : IsPrefix v.seen seen_after
+    prefix_v = (drop (length v.seen) w.seen, refl)
 
     joined_cases : (P : Joined N → Type 0) → P added → ((p : ℕ) (j : Joined N) → get_elem? r.joined p ≡ place.some j → P j) → (p : ℕ) (j : Joined N) → get_elem? joined_after p ≡ place.some j → P j
     joined_cases P a c p j e = ⊎_elim (λ (t : (p < length r.joined) × (get_elem? r.joined p ≡ place.some j)). c p j t.1) (λ (t : (p ≡ length r.joined) × (added ≡ j)). subst P t.1 a) (at_snoc_place r.joined added j p e)
@@ -214,9 +216,9 @@ module _ {X N O : Type 0} (story : X → List N) (origin : X → O) (number : N 
             has_kept = joined_cases (λ j. notes_of number j.number seen_after ≡ j.notes)
                 (let m : notes_of number w.number r.log ≡ w.mine = ap (λ (n : ℕ). notes_of number n r.log) mine_w.numbered ∙ mine_w.own in
                 let n : notes_of number w.number w.seen ≡ w.mine = ap (λ (n : ℕ). notes_of number n w.seen) mine_w.numbered ∙ mine_w.own_seen in
-                notes_between number w.number w.seen seen_after r.log starts.1 starts.0 (m ∙ sym n) ∙ n)
-                (λ p j e. notes_between number j.number v.seen seen_after r.log starts_v starts.0 (r.kept p j e ∙ sym (top_v.has_kept p j e)) ∙ top_v.has_kept p j e);
-            has_heard = joined_cases (λ j. StartsWith seen_after j.seen) starts.1 (λ p j e. starts_trans j.seen v.seen seen_after (top_v.has_heard p j e) starts_v);
+                notes_between number w.number w.seen seen_after r.log prefixes.1 prefixes.0 (m ∙ sym n) ∙ n)
+                (λ p j e. notes_between number j.number v.seen seen_after r.log prefix_v prefixes.0 (r.kept p j e ∙ sym (top_v.has_kept p j e)) ∙ top_v.has_kept p j e);
+            has_heard = joined_cases (λ j. IsPrefix j.seen seen_after) prefixes.1 (λ p j e. prefix_trans j.seen v.seen seen_after (top_v.has_heard p j e) prefix_v);
           })
           (λ z. absurd (other (z ∙ zeroth_v)))
           (λ j z n _ _ q. absurd (n (q ∙ zeroth_v))) 0 u e refl;
@@ -224,9 +226,9 @@ module _ {X N O : Type 0} (story : X → List N) (origin : X → O) (number : N 
           (λ _. record {
             numbered = mine_v.numbered;
             origin_is = mine_v.origin_is;
-            begins = starts.0;
+            begins = prefixes.0;
             own = mine_v.own;
-            own_seen = notes_between number i v.seen seen_after r.log starts_v starts.0 (mine_v.own ∙ sym mine_v.own_seen) ∙ mine_v.own_seen;
+            own_seen = notes_between number i v.seen seen_after r.log prefix_v prefixes.0 (mine_v.own ∙ sym mine_v.own_seen) ∙ mine_v.own_seen;
           })
           (λ t. absurd (true≢false (sym t)))
           (λ j z _ _ e. r.seats j z e);
@@ -269,9 +271,9 @@ module _ {X N O : Type 0} (story : X → List N) (origin : X → O) (number : N 
         by_life u e true l = inl (count_one live s.views k i u v one e l at lv ∙ (sym mine_r.numbered ∙ first))
         by_life u e false l = inr (subst (λ (j : List (Joined N)). IsJoined j k) (sym top_r.joined_is) (r.gone k u e l))
 
-    all_given : v.out ≡ 0 → (xs : List N) → StartsWith r.log xs → (p : ℕ) (d : N) → p < length xs → (number (get_or xs p d) ≡ 0) ⊎ IsJoined v.joined (number (get_or xs p d))
-    all_given none xs starts p d h = let n : ℕ = number (get_or xs p d) in dite (dec_lt n r.made) (given none n)
-        (λ far. absurd (notes_there number n xs (notes_none number n xs r.log starts (r.unborn n (omega arith))) p d h refl))
+    all_given : v.out ≡ 0 → (xs : List N) → IsPrefix xs r.log → (p : ℕ) (d : N) → p < length xs → (number (get_or xs p d) ≡ 0) ⊎ IsJoined v.joined (number (get_or xs p d))
+    all_given none xs prefix p d h = let n : ℕ = number (get_or xs p d) in dite (dec_lt n r.made) (given none n)
+        (λ far. absurd (notes_there number n xs (notes_none number n xs r.log prefix (r.unborn n (omega arith))) p d h refl))
 
     pub knows : Knows number v
     knows = record {
@@ -279,6 +281,7 @@ module _ {X N O : Type 0} (story : X → List N) (origin : X → O) (number : N 
       has_kept = kept_seen;
       has_heard = subst (λ (j : List (Joined N)). HasHeard j v.seen) (sym top_r.joined_is) top_r.has_heard;
       all_of = λ none. all_given none v.seen mine_r.begins;
+      unmade = λ k low. notes_none number k v.seen r.log mine_r.begins (r.unborn k (let m = top_r.made_is in omega arith));
       apart = subst (λ (m : ℕ). AreApart m v.joined) (sym top_r.made_is) (subst (λ (j : List (Joined N)). AreApart r.made j) (sym top_r.joined_is) r.apart);
       all_back = λ none k below. given none k (let m = top_r.made_is in omega arith);
       sums = let a = r.sums in let j = ap length top_r.joined_is in let o = top_r.out_is in let m = top_r.made_is in omega arith;
@@ -286,7 +289,7 @@ module _ {X N O : Type 0} (story : X → List N) (origin : X → O) (number : N 
 
     -- and then the root has seen the whole story
     pub all_seen : v.out ≡ 0 → r.log ≡ v.seen
-    all_seen none = let b = mine_r.begins in b.1 ∙ (ap (λ (z : List N). v.seen ++ z) (no_rest b.0 b.1) ∙ append-nil v.seen)
+    all_seen none = let b = mine_r.begins in sym b.1 ∙ (ap (λ (z : List N). v.seen ++ z) (no_rest b.0 (sym b.1)) ∙ append-nil v.seen)
       where
         same_notes : (k : ℕ) → (k ≡ 0) ⊎ IsJoined v.joined k → notes_of number k r.log ≡ notes_of number k v.seen
         same_notes k (inl z) = let e : k ≡ i = z ∙ (sym first ∙ mine_r.numbered) in ap (λ (n : ℕ). notes_of number n r.log) e ∙ (mine_r.own ∙ (sym mine_r.own_seen ∙ ap (λ (n : ℕ). notes_of number n v.seen) (sym e)))
@@ -329,15 +332,15 @@ module _ {X N O : Type 0} (story : X → List N) (origin : X → O) (number : N 
 
   -- what a look tells after a join
   module _ (v w : V) (out : List (ℕ × Option X)) (m : Me (Option X) V) (is : m ≡ (joined_with v w, out)) (k : Knows number m.0) where
-    pub heard : (m' : Me (Option X) V) → m' ≡ m → StartsWith m'.0.seen w.seen
-    heard m' same = subst (λ (z : Me (Option X) V). StartsWith z.0.seen w.seen) (sym (same ∙ is))
+    pub heard : (m' : Me (Option X) V) → m' ≡ m → IsPrefix w.seen m'.0.seen
+    heard m' same = subst (λ (z : Me (Option X) V). IsPrefix w.seen z.0.seen) (sym (same ∙ is))
         (let h : HasHeard (joined_with v w).joined (joined_with v w).seen = subst (λ (z : Me (Option X) V). HasHeard z.0.joined z.0.seen) is k.has_heard in
         h (length v.joined) record { number = w.number; notes = w.mine; seen = w.seen } (at_last v.joined record { number = w.number; notes = w.mine; seen = w.seen } (length v.joined) refl))
 
     pub one_of : (m' : Me (Option X) V) → m' ≡ m → (m'.0.seen ≡ v.seen) ⊎ (m'.0.seen ≡ w.seen)
     one_of m' same =
         let e : m'.0.seen ≡ longer v.seen w.seen = ap (λ (z : Me (Option X) V). z.0.seen) (same ∙ is) in
-        ⊎_elim (λ a. inl (e ∙ a)) (λ b. inr (e ∙ b)) (longer_one v.seen w.seen (subst (λ (z : List N). StartsWith z w.seen) e (heard m' same)))
+        ⊎_elim (λ a. inl (e ∙ a)) (λ b. inr (e ∙ b)) (longer_one v.seen w.seen (subst (λ (z : List N). IsPrefix w.seen z) e (heard m' same)))
 
     pub was_out : length v.joined + v.out + 1 ≡ v.made → 1 ≤ v.out
     was_out before =

@@ -2,19 +2,21 @@
 use Rattle.std.proofs.Common.{◌≡◌, ◌≢◌, ℕ, zero, suc, ◌≤◌, Bool, true, false, eqb, List, [], ◌∷◌, ◌++◌, length, drop, set, get_or, All, Option, Some, None, unwrap_or, sym, refl, ap, ◌∙◌, subst, ap₂, subst₂, ⊎_elim, append-nil, length-set, arith, true≢false}
 use Rattle.std.proofs.Math.Seq.{drop-append_seam}
 use lib.Seq.{set-get_or}
+use mathlib.Core.List.{IsPrefix}
 use mathlib.Core.Option as place
 use mathlib.Core.Logic.{dite}
 use native.Mathlib.Decide.{ℕ_discrete}
 use lib.ListN.{get_elem?}
+use base.Growing.{prefix_refl, prefix_trans}
 use prog.Atomic.{either}
 use Rattle.atomic_table.specs.Table.{State, Me, Act, step, keeps, takes, gives, carried_after, rest, Valid, stepped, Allows, opening}
 use Rattle.atomic_table.proofs.Lists.{at_set, set_else, set_here, set_again}
 use Rattle.turn_desk.specs.declared.view.View.{View}
 use Rattle.turn_desk.specs.declared.view.Joined.{Joined}
-use Rattle.turn_desk.specs.Story.{StartsWith, notes_of, root_of, entered, fresh, left, HasKept, Continues, held, slots}
+use Rattle.turn_desk.specs.Story.{notes_of, root_of, entered, fresh, left, HasKept, Continues, held, slots}
 use Rattle.turn_desk.specs.Turns.{Fits, IsRoot, AllOutside, OthersOutside, Turn, at_home, taken, IsKept, tried, freed}
 use Rattle.turn_desk.proofs.Slots.{one_out}
-use Rattle.turn_desk.proofs.Notes.{starts_itself, starts_trans, notes_append, notes_other, notes_own, at_below, at_one, count_same}
+use Rattle.turn_desk.proofs.Notes.{notes_append, notes_other, notes_own, at_below, at_one, count_same}
 
 module _ {X N O : Type 0} (story : X → List N) (origin : X → O) (number : N → ℕ) (known : O) where
   abbrev V : Type 0
@@ -124,7 +126,7 @@ module _ {X N O : Type 0} (story : X → List N) (origin : X → O) (number : N 
             x,
             refl,
             record {
-              begins = (f.begins.0, told ∙ f.begins.1);
+              begins = (f.begins.0, f.begins.1 ∙ sym told);
               own = ap (notes_of number v.number) told ∙ (ap (λ (k : ℕ). notes_of number k r.log) f.numbered ∙ f.own);
               own_seen = ap (λ (k : ℕ). notes_of number k v.seen) f.numbered ∙ f.own_seen;
               origin_is = f.origin_is ∙ ap Some (sym from);
@@ -185,20 +187,20 @@ module _ {X N O : Type 0} (story : X → List N) (origin : X → O) (number : N 
     frees_at : (slots n : ℕ) → OthersOutside i s.views → Frees slots i v x record { words = 1 ∷ []; homes = place.none ∷ []; views = s.views } n
     frees_at slots n others =
         let w : V = left v (story x) in
-        let goes : StartsWith (story x) r.log = (more, told) in (
+        let goes : IsPrefix r.log (story x) = (more, sym told) in (
           w,
           gives,
           tt,
           moved s r i v w (0 ∷ []) (place.some (Some x) ∷ []) (story x) at lv lv
-              record { numbered = my.numbered; origin_is = my.origin_is; begins = starts_itself (story x); own = mine_after; own_seen = mine_after }
-              (λ j u n g. record { numbered = g.numbered; origin_is = g.origin_is; begins = starts_trans u.seen r.log (story x) g.begins goes; own = others_same j n ∙ g.own; own_seen = g.own_seen })
+              record { numbered = my.numbered; origin_is = my.origin_is; begins = prefix_refl (story x); own = mine_after; own_seen = mine_after }
+              (λ j u n g. record { numbered = g.numbered; origin_is = g.origin_is; begins = prefix_trans u.seen r.log (story x) g.begins goes; own = others_same j n ∙ g.own; own_seen = g.own_seen })
               (λ _ h. record {
                 here = h.here;
                 made_is = h.made_is;
                 out_is = h.out_is;
                 joined_is = h.joined_is;
                 has_kept = kept_after;
-                has_heard = λ p j e. starts_trans j.seen v.seen (story x) (h.has_heard p j e) (starts_trans v.seen r.log (story x) my.begins goes);
+                has_heard = λ p j e. prefix_trans j.seen v.seen (story x) (h.has_heard p j e) (prefix_trans v.seen r.log (story x) my.begins goes);
               })
               kept_after
               (λ k m. others_same k (λ same. let b = at_below s.views i v at in let l = r.places in absurd (omega arith)) ∙ r.unborn k m)

@@ -1,19 +1,16 @@
 -- A story is a list of notes, the oldest first, each with the number of the seat that wrote it. What a seat knows of it, and how its view changes.
 use Rattle.std.specs.Prelude.{◌≡◌, ◌≢◌, ◌⊎◌, ℕ, ◌+◌, ◌-◌, ◌<◌, ◌==◌, true, false, List, [], ◌∷◌, ◌++◌, length, drop, map, filter, All, Option, Some, None}
 use mathlib.Core.Option.{some}
+use mathlib.Core.List.{IsPrefix}
 use lib.ListN.{get_elem?}
 use Rattle.turn_desk.specs.declared.view.View.{View}
 use Rattle.turn_desk.specs.declared.view.Joined.{Joined}
-
--- the story goes on from what was seen
-abbrev pub StartsWith : {N : Type 0} → List N → List N → Type 0
-StartsWith {N} story seen = (rest : List N) × (story ≡ seen ++ rest)
 
 -- the notes that carry the number k
 abbrev pub notes_of : {N : Type 0} → (N → ℕ) → ℕ → List N → List N
 notes_of number k story = filter (λ n. number n == k) story
 
--- the longer of two beginnings of one story
+-- the longer of two prefixes of one story
 abbrev pub longer : {N : Type 0} → List N → List N → List N
 longer a b = a ++ drop (length a) b
 
@@ -75,9 +72,9 @@ HasKept {N} number joined story = (p : ℕ) (j : Joined N) → get_elem? joined 
 abbrev pub Continues : {N O : Type 0} → (N → ℕ) → View N O → List N → Type 0
 Continues {N} {O} number v story = (found : List N) × (more : List N) × (v.inside ≡ Some found) × (story ≡ found ++ more) × All (λ n. number n ≡ v.number) more
 
--- what is seen begins with all that the joined seats had seen
+-- all that the joined seats had seen is a prefix of what is seen
 abbrev pub HasHeard : {N : Type 0} → List (Joined N) → List N → Type 0
-HasHeard {N} joined seen = (p : ℕ) (j : Joined N) → get_elem? joined p ≡ some j → StartsWith seen j.seen
+HasHeard {N} joined seen = (p : ℕ) (j : Joined N) → get_elem? joined p ≡ some j → IsPrefix j.seen seen
 
 -- each note is the root's or that of a joined seat
 abbrev pub IsAllOf : {N O : Type 0} → (N → ℕ) → View N O → List N → Type 0

@@ -1,19 +1,20 @@
 -- The desk's rule, over one word, one slot and the views of all seats, and what each step tells.
 -- The word is 1 while a seat is inside a turn, and 0 while the value is at home. A seat's number is its place among the views.
 use Rattle.std.specs.Prelude.{◌≡◌, ◌≢◌, ℕ, ◌+◌, ◌≤◌, true, false, List, [], ◌∷◌, length, count_by, Option, Some, None}
+use mathlib.Core.List.{IsPrefix}
 use mathlib.Core.Option as place
 use lib.ListN.{get_elem?}
 use Rattle.atomic_table.specs.Table.{State, Me, Step}
 use Rattle.turn_desk.specs.declared.view.View.{View}
 use Rattle.turn_desk.specs.declared.view.Joined.{Joined}
-use Rattle.turn_desk.specs.Story.{StartsWith, notes_of, entered, left, IsJoined, AreApart, HasAllBack, HasKept, HasHeard, IsAllOf}
+use Rattle.turn_desk.specs.Story.{notes_of, entered, left, IsJoined, AreApart, HasAllBack, HasKept, HasHeard, IsAllOf}
 
 module _ {N O : Type 0} (number : N → ℕ) where
-  -- the seat at the place i has the number i. It has seen a beginning of the story, with all of its own notes
+  -- the seat at the place i has the number i. It has seen a prefix of the story, with all of its own notes
   pub record Fits (known : O) (log : List N) (i : ℕ) (v : View N O) : Type 0 where
     pub numbered : v.number ≡ i
     pub origin_is : v.origin ≡ Some known
-    pub begins : StartsWith log v.seen
+    pub begins : IsPrefix v.seen log
     pub own : notes_of number i log ≡ v.mine
     pub own_seen : notes_of number i v.seen ≡ v.mine
 
@@ -26,12 +27,13 @@ module _ {N O : Type 0} (number : N → ℕ) where
     pub has_kept : HasKept number joined v.seen
     pub has_heard : HasHeard joined v.seen
 
-  -- what the root has seen of the joined seats
+  -- what the root has seen: of the joined seats all, and of those not made yet nothing
   pub record Knows (v : View N O) : Type 0 where
     pub own : notes_of number v.number v.seen ≡ v.mine
     pub has_kept : HasKept number v.joined v.seen
     pub has_heard : HasHeard v.joined v.seen
     pub all_of : v.out ≡ 0 → IsAllOf number v v.seen
+    pub unmade : (k : ℕ) → v.made ≤ k → notes_of number k v.seen ≡ []
     pub apart : AreApart v.made v.joined
     pub all_back : v.out ≡ 0 → HasAllBack v
     pub sums : length v.joined + v.out + 1 ≡ v.made
@@ -49,7 +51,7 @@ module _ {X N O : Type 0} (story : X → List N) (origin : X → O) (number : N 
     at_home : (x : X) → s.words ≡ 0 ∷ [] → s.homes ≡ place.some (Some x) ∷ [] → story x ≡ log → origin x ≡ known → AllOutside s.views → Turn known log s
     taken : (at : ℕ) (v : View N O) → s.words ≡ 1 ∷ [] → s.homes ≡ place.none ∷ [] → get_elem? s.views at ≡ place.some v → v.live ≡ true → v.inside ≡ Some log → OthersOutside at s.views → Turn known log s
 
-  -- There is one story, the log, of which each seat has seen a beginning. The root counts all seats and keeps the joined ones.
+  -- There is one story, the log, of which each seat has seen a prefix. The root counts all seats and keeps the joined ones.
   -- The places are the numbers, spent ones too, and numbers not yet given have no note
   pub record IsKept (known : O) (s : State (Option X) (View N O)) : Type 0 where
     pub log : List N
@@ -70,7 +72,7 @@ module _ {X N O : Type 0} (story : X → List N) (origin : X → O) (number : N 
 
   -- of the value x that a turn found
   pub record Finds (v : View N O) (x : X) : Type 0 where
-    pub begins : StartsWith (story x) v.seen
+    pub begins : IsPrefix v.seen (story x)
     pub own : notes_of number v.number (story x) ≡ v.mine
     pub own_seen : notes_of number v.number v.seen ≡ v.mine
     pub origin_is : v.origin ≡ Some (origin x)
@@ -86,6 +88,6 @@ module _ {X N O : Type 0} (story : X → List N) (origin : X → O) (number : N 
   abbrev pub freed : Step (Option X) → Sat → ℕ → Sat → Type 0
   freed st m found m' = (x : X) → m.1 ≡ (0, Some x) ∷ [] → (m' ≡ (left m.0 (story x), [])) × (notes_of number m.0.number (story x) ≡ (left m.0 (story x)).mine)
 
-  -- join, at its load: the root's view stays, and the rule says what it has seen
+  -- split and join, at their load: the root's view stays, and the rule says what it has seen
   abbrev pub looked : Step (Option X) → Sat → ℕ → Sat → Type 0
   looked st m found m' = (m' ≡ m) × Knows number m.0

@@ -2,19 +2,19 @@
 ghost use Rattle.std.specs.Prelude.{◌≡◌};
 
 use crate::kept::Kept;
-use crate::known::{Known, known_of};
 use crate::rule::{Free, JoinIn, Look, SplitOff, Try, Turns};
 use crate::seat::Seat;
 use crate::view::View;
 use atomic_table::{Refused, Table};
 use std::alloc::{AllocFailed, Global};
+use std::snapshot::Snapshot;
 use std::sync::Wait;
 use std::thread;
 
 /// A lock with a history, round one value. Threads share it by `&`, each with a seat of its own.
 #[derive(Drop)]
 pub struct Desk<V: Kept> {
-    table: Table<Option<V>, View<V::Note, V::Origin>, Known<V::Origin>, Turns<V>, Global>,
+    table: Table<Option<V>, View<V::Note, V::Origin>, Snapshot<V>, Turns<V>, Global>,
     ghost sized: { (table.shared.table_id.words ≡ 1) × (table.shared.table_id.slots ≡ 1) },
 }
 
@@ -38,7 +38,8 @@ impl<V> DeskRefused<V> {
 
 impl<V: Kept + Drop> Desk<V> {
     ghost use Rattle.std.specs.Prelude.{◌≢◌, ℕ, ◌+◌, ◌⊎◌, ◌<◌, List, [], IfOk, IfErr, Some, None, All};
-    ghost use Rattle.turn_desk.specs.Story.{StartsWith, notes_of, root_of, entered, left, split_from, split_off, joined_with, AreApart, HasAllBack, HasKept, IsAllOf, Continues};
+    ghost use mathlib.Core.List.{IsPrefix};
+    ghost use Rattle.turn_desk.specs.Story.{notes_of, root_of, entered, left, split_from, split_off, joined_with, AreApart, HasAllBack, HasKept, IsAllOf, Continues};
     ghost use Rattle.turn_desk.specs.Seats.{view_of, IsSeatOf, IsSameSeat, IsOutside};
 
     /// A desk with the value at home, and its first seat, the root, which has the number 0.
@@ -49,13 +50,13 @@ impl<V: Kept + Drop> Desk<V> {
         ensures seat { IfOk result (λ r. view_of r.1 ≡ root_of (V.origin value)) }
         ensures refused { IfErr result (λ r. r.value ≡ value) }
     {
-        let origin = known_of(&value);
+        let given = Snapshot::of(&value);
         let mut slots = Vec::new(alloc);
         if let Err(AllocFailed { value }) = slots.push(Some(value)) {
             slots.destroy_empty();
             return Err(DeskRefused::holding(value));
         }
-        match Table::new(alloc, &[0], slots, &origin) {
+        match Table::new(alloc, &[0], slots, &given) {
             Ok((table, token)) => Ok((
                 Desk { table },
                 Seat {
@@ -83,7 +84,7 @@ impl<V: Kept + Drop> Desk<V> {
         requires turns { (view_of seat.old).turns < 4294967294 }
         ensures same { IsSameSeat seat.old seat.new }
         ensures view { view_of seat.new ≡ entered (view_of seat.old) (V.story result) }
-        ensures seen { StartsWith (V.story result) (view_of seat.old).seen }
+        ensures seen { IsPrefix (view_of seat.old).seen (V.story result) }
         ensures mine { notes_of V.number (view_of seat.old).number (V.story result) ≡ (view_of seat.old).mine }
         ensures own { notes_of V.number (view_of seat.old).number (view_of seat.old).seen ≡ (view_of seat.old).mine }
         ensures origin { (view_of seat.old).origin ≡ Some (V.origin result) }
@@ -119,7 +120,7 @@ impl<V: Kept + Drop> Desk<V> {
         self.table.shared.swap::<Free<V>>(&mut seat.token, 0, 0);
     }
 
-    /// One more seat, with the next number, which has seen what the root has.
+    /// One more seat, with the next number. It has seen what the root has, and none of that is its own.
     pub fn split(&self, root: &mut Seat<V>) -> Seat<V>
         requires desk { IsSeatOf self.now root.old }
         requires root { (view_of root.old).number ≡ 0 }
@@ -129,7 +130,10 @@ impl<V: Kept + Drop> Desk<V> {
         ensures desk { IsSameSeat root.old result }
         ensures root { view_of root.new ≡ split_from (view_of root.old) }
         ensures seat { view_of result ≡ split_off (view_of root.old) }
+        ensures own { notes_of V.number (view_of result).number (view_of result).seen ≡ [] }
     {
+        // The rule knows that the next number has no note yet, so a load asks it.
+        self.table.shared.load::<Look<V>>(&mut root.token, 0);
         let number = root.made;
         let token = self.table.shared.split_seat::<SplitOff>(&mut root.token);
         root.out += 1;
@@ -153,7 +157,7 @@ impl<V: Kept + Drop> Desk<V> {
         requires other_outside { IsOutside other }
         ensures same { IsSameSeat root.old root.new }
         ensures root { view_of root.new ≡ joined_with (view_of root.old) (view_of other) }
-        ensures seen { StartsWith (view_of root.new).seen (view_of other).seen }
+        ensures seen { IsPrefix (view_of other).seen (view_of root.new).seen }
         ensures longer { ((view_of root.new).seen ≡ (view_of root.old).seen) ⊎ ((view_of root.new).seen ≡ (view_of other).seen) }
         ensures mine { notes_of V.number 0 (view_of root.new).seen ≡ (view_of root.new).mine }
         ensures joined { HasKept V.number (view_of root.new).joined (view_of root.new).seen }

@@ -1,23 +1,24 @@
 // The rule that holds of a desk between any two steps, and what each kind of step tells.
-// A split and a join change views alone, so they tell nothing: a join is followed by a load that does.
+// A split and a join change views alone, so they tell nothing: a load does, before a split and after a join.
 ghost use Rattle.turn_desk.specs.Story.{root_of, split_from, split_off, joined_with, spent};
 ghost use Rattle.turn_desk.specs.Turns.{IsKept, tried, freed, looked};
 
 use crate::kept::Kept;
-use crate::known::Known;
 use crate::view::View;
 use atomic_table::{Join, Play, Split, TableRule};
 use std::marker::PhantomData;
+use std::snapshot::Snapshot;
 
 /// The desk's own `TableRule`.
 pub struct Turns<V> {
     of: PhantomData<V>,
 }
 
-impl<V: Kept> TableRule<Option<V>, View<V::Note, V::Origin>, Known<V::Origin>> for Turns<V> {
-    ghost holds = { λ known s. IsKept V.story V.origin V.number known.origin s };
+impl<V: Kept> TableRule<Option<V>, View<V::Note, V::Origin>, Snapshot<V>> for Turns<V> {
+    // The key is the value as it was given to the desk.
+    ghost holds = { λ given s. IsKept V.story V.origin V.number (V.origin given.value) s };
 
-    ghost first = { λ known. root_of known.origin };
+    ghost first = { λ given. root_of (V.origin given.value) };
 }
 
 /// A compare and exchange of 0 for 1. Where it wins, the slot goes to the seat.
@@ -38,7 +39,7 @@ impl<V: Kept> Play<Option<V>, View<V::Note, V::Origin>> for Free<V> {
     ghost then = { freed V.story V.origin V.number };
 }
 
-/// A load after a join, which tells what the rule knows of the root.
+/// A load before a split or after a join, which tells what the rule knows of the root.
 pub struct Look<V> {
     of: PhantomData<V>,
 }
