@@ -1,5 +1,6 @@
 -- Each step of the progress cell keeps its rule.
 use Rattle.std.proofs.Common.{◌≡◌, ◌≢◌, ℕ, ◌+◌, ◌≤◌, ◌⊎◌, Bool, true, false, List, [], ◌∷◌, ◌++◌, set, sym, refl, ap, ◌∙◌, subst, inl, inr, ⊎_elim, append-nil, append_assoc, true≢false, arith}
+use mathlib.Core.List.{IsPrefix}
 use mathlib.Core.Option.{some}
 use lib.ListN.{get_elem?}
 use Rattle.atomic_table.proofs.Lists.{at_set, at_snoc, set_again}
@@ -7,15 +8,15 @@ use Rattle.crossbeam_utils.specs.Register.{Turns, Forks}
 use Rattle.replay_core.specs.declared.counts.Counts.{Counts}
 use Rattle.progress_block.specs.declared.cell_row.CellRow.{CellRow}
 use Rattle.progress_block.specs.declared.view.View.{View}
-use Rattle.progress_block.specs.Rows.{Rise, StartsWith, EndsWith}
+use Rattle.progress_block.specs.Rows.{Rise, EndsWith}
 use Rattle.progress_block.specs.Cell.{IsTold, published, published_one, reader_of, HasRead}
 
 pub rise_snoc : (low : ℕ) (rows : List Counts) (c : Counts) → Rise low rows → (rows ≡ [] → low ≤ c.events) → ((l : Counts) → EndsWith rows l → l.events ≤ c.events) → c.events ≤ 2147483647 → Rise low (rows ++ c ∷ [])
 rise_snoc low [] c h first last most = (first refl, most)
 rise_snoc low (x ∷ xs) c h first last most = (h.0, rise_snoc x.events xs c h.1 (λ e. last x ([], ap (λ (l : List Counts). x ∷ l) e)) (λ l e. last l (x ∷ e.0, ap (λ (z : List Counts). x ∷ z) e.1)) most)
 
-starts_more : (rows seen more : List Counts) → StartsWith rows seen → StartsWith (rows ++ more) seen
-starts_more rows seen more s = (s.0 ++ more, ap (λ (z : List Counts). z ++ more) s.1 ∙ append_assoc seen s.0 more)
+prefix_of_more : (rows seen more : List Counts) → IsPrefix seen rows → IsPrefix seen (rows ++ more)
+prefix_of_more rows seen more s = (s.0 ++ more, sym (append_assoc seen s.0 more) ∙ ap (λ (z : List Counts). z ++ more) s.1)
 
 no_end : (rows : List Counts) (c : Counts) → rows ++ c ∷ [] ≡ [] → ⊥
 no_end [] c e = cc
@@ -26,7 +27,7 @@ opens c = record {
   rows = [];
   last = λ n. absurd (n refl);
   rise = omega arith;
-  seen = λ i v e. ([], only (λ (z : View). [] ≡ z.rows ++ []) refl i v e);
+  seen = λ i v e. ([], only (λ (z : View). z.rows ++ [] ≡ []) refl i v e);
   writer = λ i v e w. (place i v e, only (λ (z : View). z.rows ≡ []) refl i v e);
 }
   where
@@ -48,8 +49,8 @@ publishes pass v c mine later most x views h at =
         rows = all;
         last = λ _. (v.rows, refl);
         rise = rise_snoc 0 v.rows c.counts (subst (Rise 0) (sym me.1) h.rise) (λ _. omega arith) later most;
-        seen = λ j u e. ⊎_elim (λ (t : (j ≡ pass) × (w ≡ u)). subst (λ (z : View). StartsWith all z.rows) t.1 ([], sym (append-nil all)))
-            (λ (t : (j ≢ pass) × (get_elem? views j ≡ some u)). starts_more v.rows u.rows (c.counts ∷ []) (subst (λ (z : List Counts). StartsWith z u.rows) (sym me.1) (h.seen j u t.1))) (at_set views pass j w u e);
+        seen = λ j u e. ⊎_elim (λ (t : (j ≡ pass) × (w ≡ u)). subst (λ (z : View). IsPrefix z.rows all) t.1 ([], append-nil all))
+            (λ (t : (j ≢ pass) × (get_elem? views j ≡ some u)). prefix_of_more v.rows u.rows (c.counts ∷ []) (subst (λ (z : List Counts). IsPrefix u.rows z) (sym me.1) (h.seen j u t.1))) (at_set views pass j w u e);
         writer = λ j u e k. ⊎_elim (λ (t : (j ≡ pass) × (w ≡ u)). (t.0 ∙ me.0, ap (λ (z : View). z.rows) (sym t.1)))
             (λ (t : (j ≢ pass) × (get_elem? views j ≡ some u)). absurd (t.0 ((h.writer j u t.1 k).0 ∙ sym me.0))) (at_set views pass j w u e);
       },
@@ -64,7 +65,7 @@ reads pass v x views h at =
         rows = h.rows;
         last = h.last;
         rise = h.rise;
-        seen = λ j u e. ⊎_elim (λ (t : (j ≡ pass) × (w ≡ u)). subst (λ (z : View). StartsWith h.rows z.rows) t.1 ([], sym (append-nil h.rows)))
+        seen = λ j u e. ⊎_elim (λ (t : (j ≡ pass) × (w ≡ u)). subst (λ (z : View). IsPrefix z.rows h.rows) t.1 ([], append-nil h.rows))
             (λ (t : (j ≢ pass) × (get_elem? views j ≡ some u)). h.seen j u t.1) (at_set views pass j w u e);
         writer = λ j u e k. ⊎_elim (λ (t : (j ≡ pass) × (w ≡ u)). (t.0 ∙ (h.writer pass v at (ap (λ (z : View). z.writes) t.1 ∙ k)).0, ap (λ (z : View). z.rows) (sym t.1)))
             (λ (t : (j ≢ pass) × (get_elem? views j ≡ some u)). h.writer j u t.1 k) (at_set views pass j w u e);
@@ -77,16 +78,16 @@ forks pass v x views h at = subst (λ (l : List View). IsTold x (l ++ reader_of 
   rows = h.rows;
   last = h.last;
   rise = h.rise;
-  seen = λ j u e. ⊎_elim (λ was. h.seen j u was) (λ (same : reader_of v ≡ u). subst (λ (z : View). StartsWith h.rows z.rows) same (h.seen pass v at)) (at_snoc views (reader_of v) u j e);
+  seen = λ j u e. ⊎_elim (λ was. h.seen j u was) (λ (same : reader_of v ≡ u). subst (λ (z : View). IsPrefix z.rows h.rows) same (h.seen pass v at)) (at_snoc views (reader_of v) u j e);
   writer = λ j u e k. ⊎_elim (λ was. h.writer j u was k) (λ (same : reader_of v ≡ u). absurd (true≢false (sym k ∙ ap (λ (z : View). z.writes) (sym same)))) (at_snoc views (reader_of v) u j e);
 }
 
 pub none_ends : (rows : List Counts) (c : Counts) → rows ≡ [] → EndsWith rows c → ⊥
 none_ends rows c e h = no_end h.0 c (sym h.1 ∙ e)
 
-pub starts_some : (rows seen : List Counts) → StartsWith rows seen → seen ≢ [] → rows ≢ []
-starts_some rows [] s n e = n refl
-starts_some rows (x ∷ xs) s n e = let h = s.1 in cc
+pub some_prefix : (rows seen : List Counts) → IsPrefix seen rows → seen ≢ [] → rows ≢ []
+some_prefix rows [] s n e = n refl
+some_prefix rows (x ∷ xs) s n e = let h = s.1 in cc
 
 pub rise_least : (low : ℕ) (rows : List Counts) → Rise low rows → low ≤ 2147483647
 rise_least low [] h = h
@@ -120,9 +121,9 @@ rise_last low x [] c h e = let same = ap (λ (z : Counts). z.events) (ends_same 
 rise_last low x (y ∷ ys) c h e = let l = h.0 in let m = rise_last x.events y ys c h.1 (ends_of [] y ys x e.0 c e.1) in omega arith
 
 -- what ends later rows has no fewer events than what ended the earlier ones
-pub rise_later : (rows seen : List Counts) (a b : Counts) → Rise 0 rows → StartsWith rows seen → EndsWith seen a → EndsWith rows b → a.events ≤ b.events
+pub rise_later : (rows seen : List Counts) (a b : Counts) → Rise 0 rows → IsPrefix seen rows → EndsWith seen a → EndsWith rows b → a.events ≤ b.events
 rise_later rows seen a b h s ea eb =
-    let all : rows ≡ (ea.0 ++ a ∷ []) ++ s.0 = s.1 ∙ ap (λ (z : List Counts). z ++ s.0) ea.1 in
+    let all : rows ≡ (ea.0 ++ a ∷ []) ++ s.0 = sym s.1 ∙ ap (λ (z : List Counts). z ++ s.0) ea.1 in
     after s.0 (rise_at 0 ea.0 a s.0 (subst (Rise 0) all h)) (sym all ∙ eb.1)
   where
     after : (more : List Counts) → Rise a.events more → (ea.0 ++ a ∷ []) ++ more ≡ eb.0 ++ b ∷ [] → a.events ≤ b.events

@@ -10,10 +10,6 @@ abbrev pub Rise : ℕ → List Counts → Type 0
 Rise low [] = low ≤ 2147483647
 Rise low (c ∷ cs) = (low ≤ c.events) × Rise c.events cs
 
--- the rows go on from what was seen
-abbrev pub StartsWith : List Counts → List Counts → Type 0
-StartsWith rows seen = (rest : List Counts) × (rows ≡ seen ++ rest)
-
 -- c is the last of the rows
 abbrev pub EndsWith : List Counts → Counts → Type 0
 EndsWith rows c = (front : List Counts) × (rows ≡ front ++ c ∷ [])

@@ -20,7 +20,8 @@ pub struct Progress {
 impl Progress {
     ghost use Rattle.std.specs.Prelude.{◌≡◌, ◌≤◌, [], ◌∷◌, ◌++◌, true, IfOk};
     ghost use Rattle.replay_core.specs.declared.counts.Counts.{Counts};
-    ghost use Rattle.progress_block.specs.Rows.{Rise, StartsWith, EndsWith};
+    ghost use mathlib.Core.List.{IsPrefix};
+    ghost use Rattle.progress_block.specs.Rows.{Rise, EndsWith};
     ghost use Rattle.progress_block.specs.Ends.{rows_of, seen_of, IsWriterOf, IsReaderOf, IsSameWriter, IsSameReader};
 
     /// A cell with its writer. The first row counts as published.
@@ -85,7 +86,7 @@ impl Progress {
     pub fn read<R: Wait>(&self, rt: &R, reader: &mut Reader) -> Counts
         requires { IsReaderOf self.now reader.old }
         ensures same { IsSameReader reader.old reader.new }
-        ensures seen { StartsWith (seen_of reader.new) (seen_of reader.old) }
+        ensures seen { IsPrefix (seen_of reader.old) (seen_of reader.new) }
         ensures row { EndsWith (seen_of reader.new) result }
         ensures rise { Rise 0 (seen_of reader.new) }
         ensures later { (before : Counts) → EndsWith (seen_of reader.old) before → before.events ≤ result.events }

@@ -6,11 +6,14 @@ ghost use Rattle.progress_block.specs.Ends.{rows_of, IsWriterOf, IsReaderOf};
 
 use crate::{Progress, Reader, Writer};
 use replay_core::Counts;
+use std::alloc::Global;
 use std::sync::Wait;
-use std::test::Fail;
-use std::thread::join;
+use std::thread::{Threads, join};
 
-// A row whose other fields are all `mark`, so that half of one row beside half of another shows.
+/// The rows that are published, in order: the events of each, and a mark that stands in all its other fields,
+/// so that half of one row beside half of another shows.
+const PUBLISHED: &[(u64, u64)] = &[(0, 1), (0, 2), (3, 3), (3, 4), (8, 5)];
+
 fn row(events: u64, mark: u64) -> Counts
     ensures { result.events ≡ events }
 {
@@ -26,49 +29,52 @@ fn row(events: u64, mark: u64) -> Counts
     }
 }
 
-// The place of a row among those that are published, or else one past them.
+/// The place of a row among those that are published, or else one past them.
 fn place_of(seen: Counts) -> usize {
-    let published = [row(0, 1), row(0, 2), row(3, 3), row(3, 4), row(8, 5)];
-    for place in 0..5 {
-        if published[place] == seen {
+    for (place, (events, mark)) in PUBLISHED.iter().enumerate() {
+        if row(*events, *mark) == seen {
             return place;
         }
     }
-    5
+    PUBLISHED.len()
 }
 
-fn publish_up<R: Wait>(
+/// Publishes a row, where its events are not below those of the one before.
+fn publish_next<R: Wait>(
     rt: &R,
     progress: &Progress,
     writer: &mut Writer,
     before: Counts,
     next: Counts,
-)
+) -> Counts
     requires progress { IsWriterOf progress.now writer.old }
     requires ends { EndsWith (rows_of writer.old) before }
-    requires up { before.events ≤ next.events }
-    requires most { next.events ≤ 2147483647 }
     ensures progress { IsWriterOf progress.now writer.new }
-    ensures ends { EndsWith (rows_of writer.new) next }
+    ensures ends { EndsWith (rows_of writer.new) result }
 {
+    if next.events < before.events {
+        return before;
+    }
+    if 2_147_483_647 < next.events {
+        return before;
+    }
     progress.publish(rt, writer, next);
+    next
 }
 
+/// Publishes all rows but the first.
 fn publish_all<R: Wait>(rt: &R, progress: &Progress, mut writer: Writer, first: Counts)
     requires progress { IsWriterOf progress.now writer }
     requires ends { EndsWith (rows_of writer) first }
-    requires first { first.events ≡ 0 }
 {
-    let none = row(0, 2);
-    let three = row(3, 3);
-    let again = row(3, 4);
-    publish_up(rt, progress, &mut writer, first, none);
-    publish_up(rt, progress, &mut writer, none, three);
-    publish_up(rt, progress, &mut writer, three, again);
-    publish_up(rt, progress, &mut writer, again, row(8, 5));
+    let mut last = first;
+    for place in 1..PUBLISHED.len() {
+        let (events, mark) = PUBLISHED[place];
+        last = publish_next(rt, progress, &mut writer, last, row(events, mark));
+    }
 }
 
-// Whether each row was one of those published, and none came before an earlier one; and the reader.
+/// Whether each row was one of those published, and none came before an earlier one; and the reader.
 fn watch<R: Wait>(rt: &R, progress: &Progress, mut reader: Reader) -> (bool, Reader)
     requires { IsReaderOf progress.now reader }
     ensures { IsReaderOf progress.now result.1 }
@@ -78,30 +84,49 @@ fn watch<R: Wait>(rt: &R, progress: &Progress, mut reader: Reader) -> (bool, Rea
     for turn in 0..1000u32 {
         let _ = turn;
         let place = place_of(progress.read(rt, &mut reader));
-        good = good && last <= place && place < 5;
+        good = good && last <= place && place < PUBLISHED.len();
         last = place;
     }
     (good, reader)
 }
 
-#[test]
-fn rows_are_whole_and_never_go_back(rt: HostRuntime) -> Result<(), Fail> {
-    let first = row(0, 1);
-    let Ok((progress, mut writer)) = Progress::new(rt.alloc(), first) else {
-        panic!(rt; "no memory")
-    };
-    let reader = progress.reader(&rt, &mut writer);
-    let (_, (good, mut reader)) = join(
-        &rt,
+/// The writer in one thread, and the reader in another.
+fn watch_beside<R: Threads + Wait + Sync>(
+    rt: &R,
+    progress: &Progress,
+    writer: Writer,
+    first: Counts,
+    reader: Reader,
+) -> (bool, Reader)
+    requires writer { IsWriterOf progress.now writer × EndsWith (rows_of writer) first }
+    requires reader { IsReaderOf progress.now reader }
+    ensures { IsReaderOf progress.now result.1 }
+{
+    let (_, watched) = join(
+        rt,
         ||
-            requires { IsWriterOf progress writer × EndsWith (rows_of writer) first × (first.events ≡ 0) }
-        { publish_all(&rt, &progress, writer, first) },
+            requires { IsSync R.row × IsWriterOf progress.now writer × EndsWith (rows_of writer) first }
+        { publish_all(rt, progress, writer, first) },
         || -> (bool, Reader)
-            requires { IsReaderOf progress reader }
-            ensures { IsReaderOf progress result.1 }
-        { watch(&rt, &progress, reader) },
+            requires { IsSync R.row × IsReaderOf progress.now reader }
+            ensures { IsReaderOf progress.entry.now result.1 }
+        { watch(rt, progress, reader) },
     );
-    assert!(rt; good);
-    assert_eq!(rt; progress.read(&rt, &mut reader), row(8, 5));
-    Ok(())
+    watched
+}
+
+/// Whether the reader saw good rows beside the writer, and what it reads once all are published.
+fn watched<R: Threads + Wait + Sync>(rt: &R, alloc: Global) -> Option<(bool, Counts)> {
+    let first = row(0, 1);
+    let Ok((progress, mut writer)) = Progress::new(alloc, first) else {
+        return None;
+    };
+    let reader = progress.reader(rt, &mut writer);
+    let (good, mut reader) = watch_beside(rt, &progress, writer, first, reader);
+    Some((good, progress.read(rt, &mut reader)))
+}
+
+#[test]
+fn rows_are_whole_and_never_go_back(rt: HostRuntime) {
+    assert_eq!(rt; watched(&rt, rt.alloc()), Some((true, row(8, 5))));
 }
