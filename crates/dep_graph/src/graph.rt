@@ -26,12 +26,13 @@ pub struct Graph {
     pub classes: Row<Class>,
 }
 
-/// The graph of an archive's entries, of which there are at most 1,048,576.
+/// The graph of an archive's entries, of which there are at most 1,048,576: no archive that is read has more.
 pub fn plan_of(alloc: Global, entries: &[Entry]) -> Result<Graph, NoMemory>
     requires few { length entries.now ≤ count_limit }
     ensures graph { IfOk result (IsGraphOf entries.now) }
 
-    // A scheduler takes the plan.
+    // A scheduler takes the plan. In entries that were read from a file each payload has its size; without that a payload could
+    // name more items than a row of a plan may have.
     ensures plan { IfOk result (λ graph. All HasItsSize entries.now → IsPlan graph.plan) }
 {
     let survey = survey_of(alloc, entries)?;
