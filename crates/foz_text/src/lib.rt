@@ -13,6 +13,3 @@ pub use hash_text::push_hash;
 pub use list_text::push_list;
 pub use put_text::push_put;
 pub use record_text::{is_refused, push_record};
-
-#[cfg(test)]
-mod tests;

@@ -8,6 +8,3 @@ mod recording;
 pub use capture::{CaptureStop, Captured, record_capture};
 pub use line::{Lines, NextLine};
 pub use recording::{RecordStop, Report, record_lines};
-
-#[cfg(test)]
-mod tests;
