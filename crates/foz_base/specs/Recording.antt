@@ -17,7 +17,7 @@ use Rattle.foz_base.specs.FileWork.{bytes_of}
 use Rattle.foz_base.specs.InputRead.{IsInputRead, input_limit}
 use Rattle.foz_base.specs.Outside.{File, holds}
 
--- lines are recorded behind what a content held, or it is refused and stays
+-- lines are recorded after what a content held, or it is refused and stays
 abbrev pub Captures : {Cause : Type 0} → List (Line Cause) → List ℕ → List ℕ → Result (Report Cause) Stop → Type 0
 Captures lines before after (Ok report) = IsCaptured before after lines report
 Captures lines before after (Err (Archive error)) = IsLeftRefused before after error

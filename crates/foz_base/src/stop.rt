@@ -20,7 +20,7 @@ pub enum Stop {
     Absent,
     Archive(ArchiveError),
     Memory,
-    /// The archive ends at `end`, and an entry of `need` bytes has no room behind it.
+    /// The archive ends at `end`, and an entry of `need` bytes has no room after it.
     Full { end: u64, need: u64 },
     /// So many entries are there that no other has room.
     TooMany { count: u32 },

@@ -47,7 +47,7 @@ abbrev pub line : List Entry → Entry → List ℕ
 line before entry =
     decimal entry.offset ++ codes " " ++ decimal entry.head.key.tag ++ codes " " ++ hex_text 16 entry.head.key.hash ++ codes " " ++ decimal entry.head.size ++ codes " " ++ standing_text (standing before entry) ++ codes "\n"
 
--- the lines of entries, each read behind those before it
+-- the lines of entries, each read after those before it
 abbrev pub lines_after : List Entry → List Entry → List ℕ
 lines_after before [] = []
 lines_after before (entry ∷ entries) = line before entry ++ lines_after (before ++ entry ∷ []) entries

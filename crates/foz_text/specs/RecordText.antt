@@ -4,6 +4,7 @@ use Rattle.std.specs.List.{count_by, flat_map}
 use Rattle.foz_words.specs.Hex.{hex_text}
 use Rattle.record_words.specs.declared.note.RecordReply.{RecordReply}
 use Rattle.record_words.specs.declared.note.RecordReply.TheVariants as replies
+use Rattle.record_words.specs.Replies.{is_new as is_new_reply, is_known as is_known_reply}
 use Rattle.record_words.specs.declared.answered.Answered.{Answered}
 use Rattle.record_words.specs.declared.answered.LineAnswer.{LineAnswer}
 use Rattle.record_words.specs.declared.answered.LineAnswer.TheVariants.{Refused, Replied}
@@ -17,14 +18,6 @@ reply_words (replies.TooLarge size) = codes "too large " ++ decimal size
 reply_words (replies.Full end need) = codes "full " ++ decimal end ++ codes " " ++ decimal need
 reply_words (replies.TooMany count) = codes "too many"
 reply_words reply = []
-
-abbrev pub is_new_reply : RecordReply → Bool
-is_new_reply (replies.New index) = true
-is_new_reply reply = false
-
-abbrev pub is_known_reply : RecordReply → Bool
-is_known_reply (replies.Known index) = true
-is_known_reply reply = false
 
 -- neither new nor known
 abbrev pub is_refused_reply : RecordReply → Bool
@@ -54,7 +47,7 @@ module _ {Cause : Type 0} where
   abbrev pub is_refused : Answered Cause → Bool
   is_refused answered = is_refused_answer answered.answer
 
-  -- the line behind all others
+  -- the line after all others
   abbrev pub summary : List (Answered Cause) → ℕ → List ℕ
   summary answers entries =
       codes "new " ++ decimal (count_by is_new answers) ++ codes " known " ++ decimal (count_by is_known answers) ++ codes " refused " ++ decimal (count_by is_refused answers) ++ codes " entries " ++ decimal entries ++ codes "\n"

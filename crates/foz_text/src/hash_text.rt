@@ -73,11 +73,11 @@ fn push_lines(alloc: Global, out: &mut Vec<u8>, capture: &[u8]) -> Result<bool, 
     let mut rest = capture;
     let mut number = 0;
     let mut readable = true;
-    while let Some((line, behind)) = first_line(rest) {
+    while let Some((line, after)) = first_line(rest) {
         number += 1;
         let read = push_line(alloc, out, number, line)?;
         readable = readable && read;
-        rest = behind;
+        rest = after;
     }
     Ok(readable)
 }

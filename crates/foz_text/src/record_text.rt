@@ -36,7 +36,7 @@ fn is_new<C>(answered: &Answered<C>) -> bool
 {
     match &answered.answer {
         LineAnswer::Refused(_) => false,
-        LineAnswer::Replied { reply, .. } => matches!(reply, RecordReply::New { .. }),
+        LineAnswer::Replied { reply, .. } => reply.is_new(),
     }
 }
 
@@ -45,7 +45,7 @@ fn is_known<C>(answered: &Answered<C>) -> bool
 {
     match &answered.answer {
         LineAnswer::Refused(_) => false,
-        LineAnswer::Replied { reply, .. } => matches!(reply, RecordReply::Known { .. }),
+        LineAnswer::Replied { reply, .. } => reply.is_known(),
     }
 }
 

@@ -9,7 +9,6 @@ use Rattle.record_words.specs.declared.note.RecordReply.TheVariants as replies
 use Rattle.record_words.specs.Recorder.{reply_of}
 use Rattle.record_words.specs.Recorded.{Line, Answer}
 use Rattle.record_words.specs.Answered.{answered_from}
-use Rattle.record_words.proofs.Alone.{alone}
 use Rattle.worker_node.specs.Ends.{IsEnd, IsToEnd}
 use Rattle.worker_node.specs.declared.served.Served.{Served}
 use Rattle.worker_node.specs.declared.served.Served.TheVariants as served
@@ -22,18 +21,20 @@ use Rattle.foz_base.specs.InputRead.{StopsInput}
 use Rattle.foz_base.specs.Outside.{File, Outside, Tells, FileFaultRose}
 use Rattle.foz_base.specs.Recording.{StopsRecording}
 use Rattle.foz_base.specs.Status.{status_of_stop}
+use Rattle.capture_lines.specs.declared.error.LineError.{LineError}
 use Rattle.capture_reader.specs.Said.{lines_said}
 use Rattle.foz_args.specs.declared.command.Command.{Command}
 use Rattle.foz_args.specs.declared.command.Command.TheVariants.{List as List_, Put, Hash, Record, Check, Worker}
 use Rattle.foz_text.specs.LineCause.{line_cause_text}
-use Rattle.foz_tool.specs.Due.{NoFault, IsDue, ListDue, HashDue, RecordingDue, PutDue, LinesDue, CheckDue, WorkerDue, status_of_reply}
+use Rattle.foz_tool.specs.Due.{NoFault, IsDue, ListDue, HashDue, RecordingDue, PutDue, LinesDue, CheckDue, WorkerDue}
 use Rattle.foz_tool.specs.Program.{Runs}
 use Rattle.foz_tool.specs.ListRun.{IsListTold}
 use Rattle.foz_tool.specs.HashRun.{IsHashTold}
-use Rattle.foz_tool.specs.PutRun.{IsPut, IsPutTold, IsStatusOf, StopsPut}
+use Rattle.foz_tool.specs.PutRun.{IsPut, IsPutTold, StopsPut, status_of_reply}
 use Rattle.foz_tool.specs.RecordRun.{IsRecordTold, status_of_answers}
 use Rattle.foz_tool.specs.CheckRun.{IsCheckTold}
 use Rattle.foz_tool.specs.WorkerRun.{HasFault, IsSession, status_of_served}
+use Rattle.foz_tool.proofs.Told.{HasOneRecord}
 
 abbrev Came : (List ℕ → ℕ → Type 0) → (Stop → Type 0) → ℕ → Type 0
 Came tells stops status = ((text : List ℕ) × tells text status) ⊎ ((stop : Stop) × (stops stop × (status ≡ status_of_stop stop)))
@@ -98,13 +99,6 @@ module _ (input rest : List ℕ) (unread : Type 0) (status : ℕ) (sound : ¬ un
     record_stop whole Memory why is = inl is
     record_stop whole stop why is = absurd why
 
-    told_status : (reply : RecordReply) → IsStatusOf reply status → status ≡ status_of_reply reply
-    told_status (replies.New index) is = is
-    told_status (replies.Known index) is = is
-    told_status (replies.Full end need) is = absurd is
-    told_status (replies.TooMany count) is = absurd is
-    told_status reply is = is
-
     module _ (key : Key) where
       put_whole : (reply : RecordReply) → IsPut input rest before after key reply → status ≡ status_of_reply reply → (status ≡ 7) ⊎ RecordingDue input before (PutDue key input) status
       put_whole reply put is = inr (inr (put.read.short, inr (put.entries, (put.held, is ∙ ap status_of_reply put.reply_is))))
@@ -120,17 +114,17 @@ module _ (input rest : List ℕ) (unread : Type 0) (status : ℕ) (sound : ¬ un
       put_stop stop why is = absurd why
 
       pub put_due : Came (IsPutTold input rest before after key) (StopsPut input rest unread before after disk key) status → (status ≡ 7) ⊎ RecordingDue input before (PutDue key input) status
-      put_due (inl told) = put_whole told.1.reply told.1.put (told_status told.1.reply told.1.status_is)
+      put_due (inl told) = put_whole told.1.reply told.1.put told.1.status_is
       put_due (inr stop) = put_stop stop.0 stop.1.0 stop.1.1
 
     module _ {Cause : Type 0} (cause_text : Cause → List ℕ) (lines_of : List ℕ → List (Line Cause)) where
-      pub record_due : Came (IsRecordTold cause_text lines_of input rest before after) (StopsRecording input rest unread before after disk) status
+      pub record_due : HasOneRecord Cause → Came (IsRecordTold cause_text lines_of input rest before after) (StopsRecording input rest unread before after disk) status
           → (status ≡ 7) ⊎ RecordingDue input before (LinesDue (lines_of input)) status
-      record_due (inl told) =
+      record_due law (inl told) =
           let t = told.1 in
-          let only = alone t.entries t.later (lines_of input) t.recorded.answers t.recorded.are in
+          let only = law t.entries t.later (lines_of input) t.recorded.answers t.recorded.are in
           inr (inr (t.read.short, inr (t.entries, (t.held, t.status_is ∙ ap (λ (answers : List (Answer Cause)). status_of_answers (answered_from 1 (lines_of input) answers)) only.0))))
-      record_due (inr stop) = record_stop (LinesDue (lines_of input)) stop.0 stop.1.0 stop.1.1
+      record_due law (inr stop) = record_stop (LinesDue (lines_of input)) stop.0 stop.1.0 stop.1.1
 
 -- ---- the worker
 
@@ -149,19 +143,19 @@ module _ {M : Type 0} (creates : M → Key → State → ℕ → M → Type 0) (
 
 -- ---- all commands
 
-pub due : {M : Type 0} (creates : M → Key → State → ℕ → M → Type 0) (tells : Tells) (command : Option Command) (before after : Outside M) (status : ℕ) → Runs creates tells command before after status
+pub due : HasOneRecord LineError → {M : Type 0} (creates : M → Key → State → ℕ → M → Type 0) (tells : Tells) (command : Option Command) (before after : Outside M) (status : ℕ) → Runs creates tells command before after status
     → tells.input → tells.output → tells.content → NoFault command before after → (status ≡ 7) ⊎ IsDue creates command before after status
-due creates tells None before after status runs input output content sound = inr runs
-due creates tells (Some (List_ file)) before after status runs input output content sound =
+due law creates tells None before after status runs input output content sound = inr runs
+due law creates tells (Some (List_ file)) before after status runs input output content sound =
     list_due (before.files.content file) (FileFaultRose before.files after.files file) status (sound.file file refl) (ended _ _ before after status sound.output (runs.ended content output))
-due creates tells (Some (Put file key)) before after status runs input output content sound =
+due law creates tells (Some (Put file key)) before after status runs input output content sound =
     put_due before.input after.input (Rose before.input_faults after.input_faults) status sound.input (before.files.content file) (after.files.content file) (FileFaultRose before.files after.files file) (sound.file file refl) key
     (ended _ _ before after status sound.output (runs.ended input output content))
-due creates tells (Some Hash) before after status runs input output content sound =
+due law creates tells (Some Hash) before after status runs input output content sound =
     hash_due before.input after.input (Rose before.input_faults after.input_faults) status sound.input (ended _ _ before after status sound.output (runs.ended input output))
-due creates tells (Some (Record file threads)) before after status runs input output content sound =
+due law creates tells (Some (Record file threads)) before after status runs input output content sound =
     record_due before.input after.input (Rose before.input_faults after.input_faults) status sound.input (before.files.content file) (after.files.content file) (FileFaultRose before.files after.files file) (sound.file file refl)
-    line_cause_text lines_said (ended _ _ before after status sound.output (runs.ended input output content))
-due creates tells (Some (Check file)) before after status runs input output content sound =
+    line_cause_text lines_said law (ended _ _ before after status sound.output (runs.ended input output content))
+due law creates tells (Some (Check file)) before after status runs input output content sound =
     check_due (before.files.content file) (FileFaultRose before.files after.files file) status (sound.file file refl) creates before.driver after.driver (ended _ _ before after status sound.output (runs.ended content output))
-due creates tells (Some Worker) before after status runs input output content sound = worker_due creates before after status sound.input sound.output (runs.session input output)
+due law creates tells (Some Worker) before after status runs input output content sound = worker_due creates before after status sound.input sound.output (runs.session input output)

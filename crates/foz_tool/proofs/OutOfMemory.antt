@@ -1,5 +1,6 @@
 -- Words for which there is no memory, and words that are no form of a command.
-use Rattle.std.proofs.Common.{◌≡◌, ◌≢◌, ◌⊎◌, inl, inr, ℕ, List, Option, Some, None, Result, Err, refl, arith}
+use Rattle.std.proofs.Common.{◌≡◌, ◌≢◌, ◌⊎◌, inl, inr, ℕ, List, [], Option, Some, None, Result, Err, refl, arith}
+use Rattle.worker_node.specs.Ends.{IsCutShort}
 use Rattle.foz_words.specs.declared.key.Key.{Key}
 use Rattle.state_words.specs.declared.state.State.{State}
 use Rattle.capture_reader.specs.Said.{lines_said}
@@ -32,19 +33,19 @@ module _ {M : Type 0} (outside : Outside M) where
   not_flushed (inr (inr (inl is))) = absurd (omega arith)
   not_flushed (inr (inr (inr is))) = absurd (omega arith)
 
-  pub out_of_memory : (creates : M → Key → State → ℕ → M → Type 0) (tells : Tells) (command : Option Command) → command ≢ None → Runs creates tells command outside outside 7
-  out_of_memory creates tells None some = absurd (some refl)
-  out_of_memory creates tells (Some (List_ file)) some = record { ended = λ content output. gone _ _ tt; only_read = λ content. rests tells.images file }
-  out_of_memory creates tells (Some (Put file key)) some = record {
+  pub out_of_memory : (creates : M → Key → State → ℕ → M → Type 0) → ((before : M) → IsCutShort creates before [] [] before) → (tells : Tells) (command : Option Command) → command ≢ None → Runs creates tells command outside outside 7
+  out_of_memory creates cut tells None some = absurd (some refl)
+  out_of_memory creates cut tells (Some (List_ file)) some = record { ended = λ content output. gone _ _ tt; only_read = λ content. rests tells.images file }
+  out_of_memory creates cut tells (Some (Put file key)) some = record {
     ended = λ input output content. gone _ _ tt;
     leaves = λ input images settled. inl refl;
     durable = λ images flushed. absurd (not_flushed flushed);
   }
-  out_of_memory creates tells (Some Hash) some = record { ended = λ input output. gone _ _ tt }
-  out_of_memory creates tells (Some (Record file threads)) some = record {
+  out_of_memory creates cut tells (Some Hash) some = record { ended = λ input output. gone _ _ tt }
+  out_of_memory creates cut tells (Some (Record file threads)) some = record {
     ended = λ input output content. gone _ _ tt;
     leaves = λ input images settled. inl refl;
     durable = λ images flushed. absurd (not_flushed flushed);
   }
-  out_of_memory creates tells (Some (Check file)) some = record { ended = λ content output. gone _ _ tt; only_read = λ content. rests tells.images file }
-  out_of_memory creates tells (Some Worker) some = unserved creates tells outside
+  out_of_memory creates cut tells (Some (Check file)) some = record { ended = λ content output. gone _ _ tt; only_read = λ content. rests tells.images file }
+  out_of_memory creates cut tells (Some Worker) some = unserved creates cut tells outside

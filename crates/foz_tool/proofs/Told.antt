@@ -1,108 +1,82 @@
 -- Lines recorded in a file.
-use Rattle.std.proofs.Common.{◌≡◌, ◌≢◌, ◌⊎◌, inl, inr, ℕ, ◌≤◌, Bool, true, false, List, [], ◌∷◌, ◌++◌, length, take, Option, Some, None, Result, Ok, Err, refl, sym, ap, ◌∙◌, subst, length-append, eq-or-lt_of_le, ◌<◌, arith}
-use Rattle.std.specs.Prelude.{if◌then◌else◌, IfErr, IfOk, IsOk}
-use Rattle.std.specs.List.{list_any}
-use Rattle.std.proofs.Math.Seq.{take-append_seam, take-length}
+use Rattle.std.proofs.Common.{◌≡◌, ◌⊎◌, inl, inr, ⊎_elim, ℕ, ◌+◌, ◌*◌, ◌≤◌, false, List, [], ◌∷◌, Option, Some, None, Result, Ok, Err, sym, ap, ◌∙◌, subst, refl, arith}
+use Rattle.std.proofs.lemmas.Bool.{cases_lt}
+use Rattle.std.proofs.lemmas.List.{take_all}
+use Rattle.std.specs.Prelude.{IfErr, IfOk}
 use Rattle.disk_model.specs.Disk.{History, MightHaveLeft}
 use Rattle.foz_words.specs.declared.key.Key.{Key}
 use Rattle.foz_entry.specs.declared.cut.Entry.{Entry}
 use Rattle.foz_archive.specs.Reading.{Holds}
 use Rattle.record_words.specs.declared.note.RecordReply.{RecordReply}
-use Rattle.record_words.specs.declared.note.RecordReply.TheVariants as replies
 use Rattle.record_words.specs.declared.answered.Answered.{Answered}
-use Rattle.foz_entry.specs.Entries.{end_of, entry_of}
 use Rattle.record_words.specs.Recorder.{reply_of}
 use Rattle.record_words.specs.Recorded.{Line, Answer, Recorded, AreAnswers, read}
 use Rattle.record_words.specs.Answered.{answered_from}
-use Rattle.record_words.specs.Alone.{grown_by, after_record, entries_alone, answers_alone}
+use Rattle.record_words.specs.Added.{added_to}
+use Rattle.record_words.specs.Alone.{after_record, entries_alone, answers_alone}
 use Rattle.record_words.specs.Story.{AreApart}
-use Rattle.record_words.proofs.Alone.{alone}
 use Rattle.record_dedup.specs.Kept.{IsArchiveOf}
-use Rattle.record_lines.specs.declared.capture.CaptureStop.{CaptureStop}
-use Rattle.record_lines.specs.declared.capture.CaptureStop.TheVariants as capture_stops
 use Rattle.record_lines.specs.declared.recording.Report.{Report}
-use Rattle.record_lines.specs.Capture.{AreAnswered, CaptureLeaves, IsCaptured, LeavesFronts}
-use Rattle.record_lines.specs.Recording.{AreRecorded, IsFrontRecorded}
-use Rattle.foz_text.specs.RecordText.{record_text, is_refused}
+use Rattle.record_lines.specs.Batches.{LeavesBatches, after_batches, records_of}
+use Rattle.record_lines.specs.Capture.{AreAnswered, CaptureLeaves, IsCaptured}
+use Rattle.record_lines.specs.Recording.{AreRecorded}
+use Rattle.foz_text.specs.RecordText.{record_text}
 use Rattle.foz_text.specs.PutText.{put_text}
 use Rattle.foz_base.specs.declared.ending.Printout.{Printout}
 use Rattle.foz_base.specs.declared.stop.Stop.{Stop}
-use Rattle.foz_base.specs.declared.stop.Stop.TheVariants.{ReadFault, DiskFault, Archive, Memory, Full, TooMany, InputTooLong}
-use Rattle.foz_base.specs.Ending.{Makes, IsWhole, Causes}
+use Rattle.foz_base.specs.declared.stop.Stop.TheVariants.{Memory, Full, TooMany}
+use Rattle.foz_base.specs.Ending.{Makes}
 use Rattle.foz_base.specs.FileWork.{bytes_of, IsWorkedOn, FileLeaves}
-use Rattle.foz_base.specs.InputRead.{IsInputRead, StopsInput}
+use Rattle.foz_base.specs.InputRead.{IsInputRead}
 use Rattle.foz_base.specs.Outside.{File}
-use Rattle.foz_tool.specs.PutRun.{IsPut, IsPutTold, IsStatusOf, IsUntold, StopsPut, LeavesRecord}
-use Rattle.foz_tool.specs.RecordRun.{IsRecordTold, is_full, status_of_answers}
-use Rattle.foz_base.specs.Recording.{Captures, StopsRecording, only_reply}
-use Rattle.foz_base.specs.Status.{report_or_stop, stop_of_capture}
+use Rattle.foz_tool.specs.PutRun.{IsPut, IsPutTold, IsUntold, StopsPut, LeavesRecord, status_of_reply}
+use Rattle.record_words.specs.Replies.{is_full}
+use Rattle.foz_tool.specs.RecordRun.{IsRecordTold, status_of_answers}
+use Rattle.foz_base.specs.Recording.{Captures, only_reply}
 
 pub input_read : (input rest payload : List ℕ) → IsInputRead input rest payload → IsInputRead input rest input
 input_read input rest payload all = record { whole = refl; short = all.short; none_left = all.none_left }
 
+-- what the law of one thread says: it has one record
+abbrev pub HasOneRecord : Type 0 → Type 0
+HasOneRecord Cause = (before later : List Entry) (lines : List (Line Cause)) (answers : List (Answer Cause)) → AreAnswers before lines 1 later answers
+    → (answers ≡ answers_alone before lines) × (later ≡ entries_alone before lines)
+
 -- ---- one line
 
-module _ (entries : List Entry) (key : Key) (payload : List ℕ) where
-  grown_cases : (reply : RecordReply) → (grown_by reply entries key payload ≡ entries) ⊎ (grown_by reply entries key payload ≡ entries ++ entry_of (end_of entries) key payload ∷ [])
-  grown_cases (replies.New index) = inr refl
-  grown_cases reply = inl refl
-
-  -- what is between the entries before and those after the record
-  between : (later : List Entry) → later ≡ after_record entries key payload → (n : ℕ) → length entries ≤ n → n ≤ length later → (bytes : List ℕ) → Holds bytes (take n later)
-      → Holds bytes entries ⊎ Holds bytes (after_record entries key payload)
-  between later is n low high bytes holds = elim (grown_cases (reply_of entries key payload)) [
-    | inl same ↦
-        let all : later ≡ entries = is ∙ same in
-        let counted : n ≡ length entries = omega (arith, ap length all) in
-        inl (subst (Holds bytes) (ap (take n) all ∙ ap (λ (k : ℕ). take k entries) counted ∙ take-length entries) holds)
-    | inr more ↦
-        let entry = entry_of (end_of entries) key payload in
-        let all : later ≡ entries ++ entry ∷ [] = is ∙ more in
-        elim (seam later (entries ++ entry ∷ []) all entry refl n low high) [
-          | inl first ↦ inl (subst (Holds bytes) (ap (take n) all ∙ ap (λ (k : ℕ). take k (entries ++ entry ∷ [])) first ∙ take-append_seam entries (entry ∷ [])) holds)
-          | inr last ↦ inr (subst (Holds bytes) (ap (λ (k : ℕ). take k later) last ∙ take-length later ∙ is) holds)
-        ]
-  ]
-    where
-      seam : (later more : List Entry) → later ≡ more → (entry : Entry) → more ≡ entries ++ entry ∷ [] → (n : ℕ) → length entries ≤ n → n ≤ length later → (n ≡ length entries) ⊎ (n ≡ length later)
-      seam later more all entry is n low high =
-          by_order (eq-or-lt_of_le low)
-        where
-          by_order : (length entries ≡ n) ⊎ (length entries < n) → (n ≡ length entries) ⊎ (n ≡ length later)
-          by_order (inl same) = inl (sym same)
-          by_order (inr more) = inr (let counted = ap length (all ∙ is) in let two = length-append entries (entry ∷ []) in omega arith)
-
-module _ {Cause : Type 0} (entries : List Entry) (key : Key) (payload : List ℕ) where
+module _ (Cause : Type 0) (entries : List Entry) (key : Key) (payload : List ℕ) where
   abbrev one : List (Line Cause)
   one = read key payload ∷ []
 
-  one_reply : (later : List Entry) (answered : List (Answered Cause)) → AreRecorded entries one 1 later answered → (later ≡ after_record entries key payload) × (only_reply answered ≡ Some (reply_of entries key payload))
-  one_reply later answered are =
-      let only = alone entries later one are.answers are.are in (
+  one_reply : HasOneRecord Cause → (later : List Entry) (answered : List (Answered Cause)) → AreRecorded entries one 1 later answered → (later ≡ after_record entries key payload) × (only_reply answered ≡ Some (reply_of entries key payload))
+  one_reply law later answered are =
+      let only = law entries later one are.answers are.are in (
         only.1,
         ap only_reply (are.told ∙ ap (answered_from 1 one) only.0),
       )
 
-  front_of_one : (later : List Entry) (done rest : List (Line Cause)) → one ≡ done ++ rest → later ≡ entries_alone entries done → (later ≡ entries) ⊎ (later ≡ after_record entries key payload)
-  front_of_one later [] rest is grown = inl grown
-  front_of_one later (line ∷ []) rest is grown = inr (grown ∙ ap (λ (l : Line Cause). entries_alone entries (l ∷ [])) (let same : line ≡ read key payload = cc in same))
-  front_of_one later (line ∷ more ∷ done) rest is grown = absurd (let none : [] ≡ more ∷ (done ++ rest) = cc in cc)
+  -- the batches of one line: none, or that line
+  after_one : (n : ℕ) → (after_batches entries one n ≡ entries) ⊎ (after_batches entries one n ≡ after_record entries key payload)
+  after_one n = elim (cases_lt n 1) [
+    | inl none ↦ let same : n ≡ 0 = omega arith in inl (ap (after_batches entries one) same)
+    | inr some ↦ inr (ap (added_to entries) (take_all (n * 64) (records_of one) (let g : 1 ≤ n * 64 = omega arith in g)))
+  ]
 
-  pub leaves_one : (before : List ℕ) → Holds before entries → (old new : History) → LeavesFronts entries old new one → (bytes : List ℕ) → MightHaveLeft new old.moment bytes
-      → Holds bytes entries ⊎ Holds bytes (after_record entries key payload)
-  leaves_one before held old new fronts bytes might =
-      let front = fronts.each bytes might in
-      elim (front_of_one fronts.later fronts.recorded.done fronts.recorded.rest fronts.recorded.front fronts.recorded.entries) [
-        | inl none ↦
-            let counted : front.0 ≡ length entries = let a = front.1 in let b = front.2 in omega (arith, ap length none) in
-            inl (subst (Holds bytes) (ap (take front.0) none ∙ ap (λ (k : ℕ). take k entries) counted ∙ take-length entries) front.3)
-        | inr same ↦ between entries key payload fronts.later same front.0 front.1 front.2 bytes front.3
-      ]
+  held_after : (bytes : List ℕ) (n : ℕ) → Holds bytes (after_batches entries one n) → Holds bytes entries ⊎ Holds bytes (after_record entries key payload)
+  held_after bytes n holds = elim (after_one n) [
+    | inl none ↦ inl (subst (Holds bytes) none holds)
+    | inr all ↦ inr (subst (Holds bytes) all holds)
+  ]
+
+  pub leaves_one : (old new : History) → LeavesBatches entries one old new → (bytes : List ℕ) → MightHaveLeft new old.moment bytes → Holds bytes entries ⊎ Holds bytes (after_record entries key payload)
+  leaves_one old new batches bytes (moment, from, (until, image)) =
+      let at = batches.each moment from until in
+      ⊎_elim (held_after bytes at.0) (held_after bytes (at.0 + 1)) (at.1 bytes image)
 
 leaves_record : {Cause : Type 0} (key : Key) (payload bytes : List ℕ) (old new : History) → CaptureLeaves {Cause = Cause} bytes old new (read key payload ∷ []) → LeavesRecord key payload bytes old new
 leaves_record key payload bytes old new left = record {
   goes_on = left.goes_on;
-  each = λ entries held image might. leaves_one entries key payload bytes held old new (left.fronts entries held) image might;
+  each = λ entries held image might. leaves_one _ entries key payload old new (left.batches entries held) image might;
 }
 
 pub put_leaves : {Cause : Type 0} (key : Key) (payload : List ℕ) (lines : List (Line Cause)) → lines ≡ read key payload ∷ [] → (before : File) (old new : Option History)
@@ -118,11 +92,11 @@ put_leaves key payload lines is before old new left settled = elim (left settled
   })
 ]
 
-pub is_put : {Cause : Type 0} (input rest : List ℕ) (all : IsInputRead input rest input) (before after : File) (key : Key) (report : Report Cause) (reply : RecordReply) (lines : List (Line Cause)) → lines ≡ read key input ∷ []
+pub is_put : {Cause : Type 0} → HasOneRecord Cause → (input rest : List ℕ) (all : IsInputRead input rest input) (before after : File) (key : Key) (report : Report Cause) (reply : RecordReply) (lines : List (Line Cause)) → lines ≡ read key input ∷ []
     → IsWorkedOn (Captures lines) before after (Ok report) → only_reply report.answers ≡ Some reply → IsPut input rest before after key reply
-is_put input rest all before after key report reply lines is did only =
+is_put law input rest all before after key report reply lines is did only =
     let captured : IsCaptured (bytes_of before) did.bytes (read key input ∷ []) report = subst (λ (l : List (Line _)). IsCaptured (bytes_of before) did.bytes l report) is did.done in
-    let told = one_reply captured.entries key input captured.later report.answers captured.recorded in
+    let told = one_reply _ captured.entries key input law captured.later report.answers captured.recorded in
     let same : Some reply ≡ Some (reply_of captured.entries key input) = sym only ∙ told.1 in
     record {
       read = all;
@@ -133,9 +107,9 @@ is_put input rest all before after key report reply lines is did only =
     }
 
 -- one line that is read has one answer
-pub always_replied : {Cause : Type 0} (key : Key) (payload : List ℕ) (lines : List (Line Cause)) → lines ≡ read key payload ∷ [] → (report : Report Cause) → AreAnswered lines report → only_reply report.answers ≡ None → ⊥
-always_replied key payload lines is report answered none =
-    let told = one_reply answered.before key payload answered.later report.answers (subst (λ (l : List (Line _)). AreRecorded answered.before l 1 answered.later report.answers) is answered.recorded) in
+pub always_replied : {Cause : Type 0} → HasOneRecord Cause → (key : Key) (payload : List ℕ) (lines : List (Line Cause)) → lines ≡ read key payload ∷ [] → (report : Report Cause) → AreAnswered lines report → only_reply report.answers ≡ None → ⊥
+always_replied law key payload lines is report answered none =
+    let told = one_reply _ answered.before key payload law answered.later report.answers (subst (λ (l : List (Line _)). AreRecorded answered.before l 1 answered.later report.answers) is answered.recorded) in
     some_not_none _ (sym told.1 ∙ none)
   where
     some_not_none : (reply : RecordReply) → Some reply ≡ None → ⊥
@@ -143,9 +117,9 @@ always_replied key payload lines is report answered none =
 
 -- what is told of the reply
 pub put_makes : (input rest : List ℕ) (unread : Type 0) (before after : File) (disk : Type 0) (key : Key) (reply : RecordReply) → IsPut input rest before after key reply → (made : Result Printout Stop)
-    → IfOk made (λ printout. (printout.text ≡ put_text reply) × IsStatusOf reply printout.status) → IfErr made (IsUntold reply)
+    → IfOk made (λ printout. (is_full reply ≡ false) × (printout.text ≡ put_text reply) × (printout.status ≡ status_of_reply reply)) → IfErr made (IsUntold reply)
     → Makes (IsPutTold input rest before after key) (StopsPut input rest unread before after disk key) made
-put_makes input rest unread before after disk key reply put (Ok printout) told untold = record { reply = reply; put = put; text_is = told.0; status_is = told.1 }
+put_makes input rest unread before after disk key reply put (Ok printout) told untold = record { reply = reply; put = put; has_room = told.0; text_is = told.1; status_is = told.2 }
 put_makes input rest unread before after disk key reply put (Err (Full end need)) told untold = subst (λ (r : RecordReply). IsPut input rest before after key r) untold put
 put_makes input rest unread before after disk key reply put (Err (TooMany count)) told untold = subst (λ (r : RecordReply). IsPut input rest before after key r) untold put
 put_makes input rest unread before after disk key reply put (Err Memory) told untold = tt
@@ -155,12 +129,12 @@ put_makes input rest unread before after disk key reply put (Err stop) told unto
 
 module _ {Cause : Type 0} (cause_text : Cause → List ℕ) (lines_of : List ℕ → List (Line Cause)) where
   pub is_record_told : (input rest : List ℕ) (all : IsInputRead input rest input) (before after : File) (report : Report Cause) (lines : List (Line Cause)) → lines ≡ lines_of input → IsWorkedOn (Captures lines) before after (Ok report)
-      → ((entries : List Entry) (lines : List (Line Cause)) → AreApart entries (entries_alone entries lines)) → (text : List ℕ) (status : ℕ) → text ≡ record_text cause_text report.answers report.entries
+      → HasOneRecord Cause → ((entries : List Entry) (lines : List (Line Cause)) → AreApart entries (entries_alone entries lines)) → (text : List ℕ) (status : ℕ) → text ≡ record_text cause_text report.answers report.entries
       → status ≡ status_of_answers report.answers → IsRecordTold cause_text lines_of input rest before after text status
-  is_record_told input rest all before after report lines is did are_apart text status text_is status_is =
+  is_record_told input rest all before after report lines is did law are_apart text status text_is status_is =
       let captured : IsCaptured (bytes_of before) did.bytes (lines_of input) report = subst (λ (l : List (Line Cause)). IsCaptured (bytes_of before) did.bytes l report) is did.done in
       let recorded = captured.recorded in
-      let only = alone captured.entries captured.later (lines_of input) recorded.answers recorded.are in
+      let only = law captured.entries captured.later (lines_of input) recorded.answers recorded.are in
       record {
         read = all;
         entries = captured.entries;

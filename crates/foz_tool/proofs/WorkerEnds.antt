@@ -8,7 +8,6 @@ use Rattle.worker_node.specs.Ends.{IsCutShort, IsEnd, IsServed, IsToEnd, IsWhole
 use Rattle.worker_node.specs.Steps.{IsServedBehind}
 use Rattle.worker_node.specs.declared.served.Served.{Served}
 use Rattle.worker_node.specs.declared.served.Served.TheVariants.{Quit, InputEnded, ReadFault, WriteFault, BadFrame, Memory}
-use Rattle.worker_node.proofs.Runs.{hello_end}
 use Rattle.foz_base.specs.Ending.{HasCauses}
 use Rattle.foz_base.specs.Outside.{Outside, Tells}
 use Rattle.foz_tool.specs.WorkerRun.{HasFault, IsSession, Serves, status_of_served}
@@ -70,19 +69,19 @@ serve_causes read write outcome status is unread unwritten = record {
 
 module _ {M : Type 0} (creates : M → Key → State → ℕ → M → Type 0) where
   -- nothing was taken and nothing written, since memory ran out
-  unserved_session : (outside : Outside M) → IsSession creates outside outside 7
-  unserved_session outside = record {
+  unserved_session : ((before : M) → IsCutShort creates before [] [] before) → (outside : Outside M) → IsSession creates outside outside 7
+  unserved_session cut outside = record {
     outcome = Memory;
     taken = [];
     parts = refl;
-    session = record { out = []; is = sym (append-nil outside.written); served = hello_end creates outside.driver outside.written [] 0 };
+    session = record { out = []; is = sym (append-nil outside.written); served = cut outside.driver };
     comes = λ h. absurd h;
     fault = tt;
     answered = refl;
   }
 
-  pub unserved : (tells : Tells) (outside : Outside M) → Serves creates tells outside outside 7
-  unserved tells outside = record { session = λ input output. unserved_session outside; ends = λ input. record { outcome = Memory; comes = λ h. absurd h; answered = refl } }
+  pub unserved : ((before : M) → IsCutShort creates before [] [] before) → (tells : Tells) (outside : Outside M) → Serves creates tells outside outside 7
+  unserved cut tells outside = record { session = λ input output. unserved_session cut outside; ends = λ input. record { outcome = Memory; comes = λ h. absurd h; answered = refl } }
 
   -- ---- the statuses
 

@@ -8,8 +8,6 @@ use Rattle.foz_archive.specs.declared.refusal.ArchiveError.{ArchiveError}
 use Rattle.foz_archive.specs.declared.scanned.Scanned.{Scanned}
 use Rattle.foz_archive.specs.Reading.{Holds, IsNew}
 use Rattle.foz_archive.specs.Refusal.{IsRefusedToWrite}
-use Rattle.record_words.specs.declared.note.RecordReply.{RecordReply}
-use Rattle.record_words.specs.declared.note.RecordReply.TheVariants as replies
 use Rattle.record_words.specs.Recorder.{reply_of}
 use Rattle.record_words.specs.Recorded.{Line}
 use Rattle.record_words.specs.Answered.{answered_from}
@@ -27,6 +25,7 @@ use Rattle.foz_base.specs.InputRead.{input_limit}
 use Rattle.foz_base.specs.Outside.{File, Outside, absent, FileFaultRose}
 use Rattle.foz_tool.specs.CheckRun.{IsCheckTold}
 use Rattle.foz_tool.specs.Program.{file_of_command}
+use Rattle.foz_tool.specs.PutRun.{status_of_reply}
 use Rattle.foz_tool.specs.RecordRun.{status_of_answers}
 use Rattle.foz_tool.specs.WorkerRun.{status_of_served}
 
@@ -54,13 +53,6 @@ HashDue input status = ((status ≡ 10) × (input_limit < length input)) ⊎ ((l
 abbrev pub RecordingDue : List ℕ → File → (List Entry → ℕ → Type 0) → ℕ → Type 0
 RecordingDue input file whole status =
     ((status ≡ 10) × (input_limit < length input)) ⊎ ((length input ≤ input_limit) × (((status ≡ 6) × IsUnwritable file) ⊎ ((entries : List Entry) × (Holds (bytes_of file) entries × whole entries status))))
-
-abbrev pub status_of_reply : RecordReply → ℕ
-status_of_reply (replies.New index) = 0
-status_of_reply (replies.Known index) = 0
-status_of_reply (replies.Full end need) = 8
-status_of_reply (replies.TooMany count) = 8
-status_of_reply reply = 1
 
 abbrev pub PutDue : Key → List ℕ → List Entry → ℕ → Type 0
 PutDue key input entries status = status ≡ status_of_reply (reply_of entries key input)

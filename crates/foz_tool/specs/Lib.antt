@@ -3,6 +3,7 @@ pub mod PutRun
 pub mod HashRun
 pub mod RecordRun
 pub mod CheckRun
+pub mod CheckFates
 pub mod WorkerRun
 pub mod Program
 pub mod Due

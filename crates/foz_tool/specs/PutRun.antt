@@ -1,5 +1,5 @@
 -- The command `put`.
-use Rattle.std.specs.Prelude.{◌≡◌, ◌⊎◌, ℕ, List}
+use Rattle.std.specs.Prelude.{◌≡◌, ◌⊎◌, ℕ, false, List}
 use Rattle.disk_model.specs.Disk.{History, GoesOn, MightHaveLeft}
 use Rattle.disk_model.specs.Faults.{Rose}
 use Rattle.foz_words.specs.declared.key.Key.{Key}
@@ -8,6 +8,7 @@ use Rattle.foz_archive.specs.Reading.{Holds}
 use Rattle.record_words.specs.declared.note.RecordReply.{RecordReply}
 use Rattle.record_words.specs.declared.note.RecordReply.TheVariants as replies
 use Rattle.record_words.specs.Recorder.{reply_of}
+use Rattle.record_words.specs.Replies.{is_full}
 use Rattle.record_words.specs.Alone.{after_record}
 use Rattle.foz_text.specs.PutText.{put_text}
 use Rattle.foz_base.specs.declared.stop.Stop.{Stop}
@@ -18,15 +19,15 @@ use Rattle.foz_base.specs.Outside.{File, Outside, Tells, FileFaultRose, IsSettle
 use Rattle.foz_base.specs.InputRead.{IsInputRead}
 use Rattle.foz_base.specs.Recording.{IsFlushed, StopsRecording}
 
--- the status of a reply that has a line; the others say that the archive is full
-abbrev pub IsStatusOf : RecordReply → ℕ → Type 0
-IsStatusOf (replies.New index) status = status ≡ 0
-IsStatusOf (replies.Known index) status = status ≡ 0
-IsStatusOf (replies.Full end need) status = ⊥
-IsStatusOf (replies.TooMany count) status = ⊥
-IsStatusOf reply status = status ≡ 1
+-- the status of a reply
+abbrev pub status_of_reply : RecordReply → ℕ
+status_of_reply (replies.New index) = 0
+status_of_reply (replies.Known index) = 0
+status_of_reply (replies.Full end need) = 8
+status_of_reply (replies.TooMany count) = 8
+status_of_reply reply = 1
 
--- why a reply has no line
+-- why a reply has no line: it says that the archive is full
 abbrev pub IsUntold : RecordReply → Stop → Type 0
 IsUntold reply (stop.Full end need) = reply ≡ replies.Full end need
 IsUntold reply (stop.TooMany count) = reply ≡ replies.TooMany count
@@ -39,7 +40,7 @@ pub record LeavesRecord (key : Key) (payload before : List ℕ) (old new : Histo
   pub goes_on : GoesOn old new
   pub each : (entries : List Entry) → Holds before entries → (bytes : List ℕ) → MightHaveLeft new old.moment bytes → Holds bytes entries ⊎ Holds bytes (after_record entries key payload)
 
--- All of the input was recorded under the key behind the entries that the file held, and flushed, with this reply.
+-- All of the input was recorded under the key after the entries that the file held, and flushed, with this reply.
 pub record IsPut (input rest : List ℕ) (before after : File) (key : Key) (reply : RecordReply) : Type 0 where
   pub read : IsInputRead input rest input
   pub entries : List Entry
@@ -47,12 +48,13 @@ pub record IsPut (input rest : List ℕ) (before after : File) (key : Key) (repl
   pub reply_is : reply ≡ reply_of entries key input
   pub archive : IsArchiveFile after (after_record entries key input)
 
--- the line of the reply
+-- the line of the reply, which doesn't say that the archive is full
 pub record IsPutTold (input rest : List ℕ) (before after : File) (key : Key) (text : List ℕ) (status : ℕ) : Type 0 where
   pub reply : RecordReply
   pub put : IsPut input rest before after key reply
+  pub has_room : is_full reply ≡ false
   pub text_is : text ≡ put_text reply
-  pub status_is : IsStatusOf reply status
+  pub status_is : status ≡ status_of_reply reply
 
 -- why `put` stops: the archive may have no room, too
 abbrev pub StopsPut : (input rest : List ℕ) (read : Type 0) (before after : File) (disk : Type 0) → Key → Stop → Type 0

@@ -1,16 +1,15 @@
 -- The command `record`. It is given the words of why a line can't be read, and how lines are read of an input.
-use Rattle.std.specs.Prelude.{◌≡◌, ℕ, Bool, true, false, if◌then◌else◌, List}
+use Rattle.std.specs.Prelude.{◌≡◌, ℕ, Bool, false, if◌then◌else◌, List}
 use Rattle.std.specs.List.{list_any}
 use Rattle.disk_model.specs.Faults.{Rose}
 use Rattle.foz_entry.specs.declared.cut.Entry.{Entry}
 use Rattle.foz_archive.specs.Reading.{Holds}
-use Rattle.record_words.specs.declared.note.RecordReply.{RecordReply}
-use Rattle.record_words.specs.declared.note.RecordReply.TheVariants as replies
 use Rattle.record_words.specs.declared.answered.Answered.{Answered}
 use Rattle.record_words.specs.declared.answered.LineAnswer.{LineAnswer}
 use Rattle.record_words.specs.declared.answered.LineAnswer.TheVariants.{Refused, Replied}
 use Rattle.record_words.specs.Recorded.{Line, Answer, Recorded}
 use Rattle.record_words.specs.Answered.{answered_from}
+use Rattle.record_words.specs.Replies.{is_full}
 use Rattle.record_words.specs.Story.{AreApart}
 use Rattle.record_lines.specs.Capture.{CaptureLeaves}
 use Rattle.foz_text.specs.RecordText.{record_text, is_refused}
@@ -20,30 +19,25 @@ use Rattle.foz_base.specs.Outside.{File, Outside, Tells, FileFaultRose, IsSettle
 use Rattle.foz_base.specs.InputRead.{IsInputRead}
 use Rattle.foz_base.specs.Recording.{IsFlushed, StopsRecording}
 
-abbrev pub says_full : RecordReply → Bool
-says_full (replies.Full end need) = true
-says_full (replies.TooMany count) = true
-says_full reply = false
-
 module _ {Cause : Type 0} where
-  abbrev pub is_full_answer : LineAnswer Cause → Bool
-  is_full_answer (Refused cause) = false
-  is_full_answer (Replied key reply) = says_full reply
+  abbrev pub answer_lacks_room : LineAnswer Cause → Bool
+  answer_lacks_room (Refused cause) = false
+  answer_lacks_room (Replied key reply) = is_full reply
 
-  -- the line's state had no room in the archive
-  abbrev pub is_full : Answered Cause → Bool
-  is_full answered = is_full_answer answered.answer
+  -- the line's state has no room in the archive
+  abbrev pub lacks_room : Answered Cause → Bool
+  lacks_room answered = answer_lacks_room answered.answer
 
-  -- 8 where a line had no room, else 1 where a line is neither new nor known, else 0
+  -- 8 where a line has no room, else 1 where a line is neither new nor known, else 0
   abbrev pub status_of_answers : List (Answered Cause) → ℕ
-  status_of_answers answers = if list_any is_full answers then 8 else (if list_any is_refused answers then 1 else 0)
+  status_of_answers answers = if list_any lacks_room answers then 8 else (if list_any is_refused answers then 1 else 0)
 
   -- the text of lines with these answers, after which the archive has so many entries
   abbrev pub text_of_lines : (Cause → List ℕ) → List (Line Cause) → List (Answer Cause) → ℕ → List ℕ
   text_of_lines cause_text lines answers entries = record_text cause_text (answered_from 1 lines answers) entries
 
   module _ (cause_text : Cause → List ℕ) (lines_of : List ℕ → List (Line Cause)) where
-    -- The lines of all of the input were recorded by one thread behind the entries that the file held, and flushed. Each key
+    -- The lines of all of the input were recorded by one thread after the entries that the file held, and flushed. Each key
     -- was added once, and none that was held.
     pub record IsRecordTold (input rest : List ℕ) (before after : File) (text : List ℕ) (status : ℕ) : Type 0 where
       pub read : IsInputRead input rest input
@@ -55,8 +49,8 @@ module _ {Cause : Type 0} where
       pub archive : IsArchiveFile after later
       pub status_is : status ≡ status_of_answers (answered_from 1 (lines_of input) recorded.answers)
 
-    -- `record` of the input into this file ended with this status; a crash leaves the entries that the file held, and some of
-    -- those that a prefix of the lines added, in order
+    -- `record` of the input into this file ended with this status. A crash at each moment leaves the entries that the file held,
+    -- recorded with some batches of the lines, or with one batch more.
     pub record Records (tells : Tells) {M : Type 0} (before after : Outside M) (file : List ℕ) (status : ℕ) : Type 0 where
       pub ended : tells.input → tells.output → tells.content → let old = before.files.content file in let new = after.files.content file in
           Ended (IsRecordTold before.input after.input old new)

@@ -67,7 +67,7 @@ fn check<F: Shelf, R: Driver>(
     Ok(told)
 }
 
-/// Replays the items of a file in this process, each given to the driver once what it stands on succeeded, and prints how
+/// Replays the items of a file in this process, each given to the driver once what it depends on succeeded, and prints how
 /// each entry came out.
 pub fn check_cmd<I: Source, O: Sink, F: Shelf, R: Driver>(
     alloc: Global,

@@ -2,6 +2,7 @@
 #![tactic(auto)]
 
 mod check;
+mod check_laws;
 mod hash;
 mod host;
 mod list;
@@ -12,6 +13,7 @@ mod worker;
 mod worker_laws;
 
 pub use check::check_cmd;
+pub use check_laws::checks_tell_fates;
 pub use hash::hash_cmd;
 pub use host::Host;
 pub use list::list_cmd;

@@ -13,11 +13,14 @@ use crate::list::list_cmd;
 use crate::put::put_cmd;
 use crate::record::record_cmd;
 use crate::worker::worker_cmd;
+use capture_lines::LineError;
 use disk_model::{Shelf, Sink, Source};
 use driver_check::Driver;
 use foz_args::{ArgError, Command, command_of};
 use foz_base::{Stop, complain};
+use record_words::lines_in_order_make_a_record;
 use std::alloc::Global;
+use worker_node::sessions_have_one_end;
 
 /// Does what the words ask for, and answers the status.
 pub fn run<I: Source, O: Sink, F: Shelf, R: Driver>(
@@ -51,6 +54,8 @@ pub fn run<I: Source, O: Sink, F: Shelf, R: Driver>(
     ensures other_files { F.tells → (name : List ℕ) → file_of_command (command_of (map string_bytes words.now)) ≢ Some name → F.places host.new.files name ≡ F.places host.old.files name }
     ensures all_back { F.tells → (name : List ℕ) → F.places host.new.files name ≢ out }
 {
+    lines_in_order_make_a_record::<LineError>();
+    sessions_have_one_end::<R>();
     match command_of(words) {
         Ok(Command::List { file }) => list_cmd(alloc, host, file),
         Ok(Command::Put { file, key }) => put_cmd(alloc, host, file, key),

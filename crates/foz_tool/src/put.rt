@@ -1,12 +1,13 @@
 //! The command `put`.
-ghost use Rattle.std.specs.Prelude.{◌≡◌, ◌≢◌, IfOk, IfErr};
+ghost use Rattle.std.specs.Prelude.{◌≡◌, ◌≢◌, false, IfOk, IfErr};
 ghost use Rattle.disk_model.specs.Faults.{Rose};
 ghost use Rattle.disk_model.specs.Place.{out};
 ghost use Rattle.foz_base.specs.Ending.{Makes, Causes, HasCauses};
 ghost use Rattle.foz_base.specs.FileWork.{FileLeaves};
 ghost use Rattle.foz_base.specs.Outside.{file_of, history_of, files_of, FileFaultRose, IsSettledFile, WorksOn};
 ghost use Rattle.foz_text.specs.PutText.{put_text};
-ghost use Rattle.foz_tool.specs.PutRun.{IsPutTold, IsStatusOf, IsUntold, StopsPut, LeavesRecord, Puts};
+ghost use Rattle.record_words.specs.Replies.{is_full};
+ghost use Rattle.foz_tool.specs.PutRun.{IsPutTold, IsUntold, StopsPut, LeavesRecord, Puts, status_of_reply};
 ghost use Rattle.foz_base.specs.Recording.{IsDone};
 
 use crate::host::{Host, Seen};
@@ -15,7 +16,7 @@ use driver_check::Driver;
 use foz_base::{OneLine, Printout, Recording, Stop, finish, only_reply, read_input, write_file};
 use foz_text::push_put;
 use foz_words::{Key, Name, NoMemory, Row};
-use record_words::RecordReply;
+use record_words::{RecordReply, lines_in_order_make_a_record};
 use std::alloc::Global;
 
 /// Records an input under a key in a file. Gives the line that says how that went, with 0 where the payload is there now.
@@ -40,6 +41,7 @@ fn put<I: Source, F: Shelf>(
     ensures causes { let seen = files_of F.Held.content F.Held.history F.Held.faults in
         Causes (Rose (I.faults input.old) (I.faults input.new)) (F.tells → FileFaultRose (seen (F.places files.old) (F.faults files.old)) (seen (F.places files.new) (F.faults files.new)) name.now) result }
 {
+    lines_in_order_make_a_record::<NoMemory>();
     let payload = read_input(alloc, input)?;
     let lines = OneLine::<NoMemory>::new(key, payload);
     let report = write_file(alloc, files, name, Recording { lines })?;
@@ -52,7 +54,7 @@ fn put<I: Source, F: Shelf>(
 
 /// The line of a reply, unless it says that the archive is full.
 fn reply_told(alloc: Global, reply: &RecordReply) -> Result<Printout, Stop>
-    ensures told { IfOk result (λ made. (made.text ≡ put_text reply.now) × IsStatusOf reply.now made.status) }
+    ensures told { IfOk result (λ made. (is_full reply.now ≡ false) × (made.text ≡ put_text reply.now) × (made.status ≡ status_of_reply reply.now)) }
     ensures untold { IfErr result (IsUntold reply.now) }
 {
     let status = match reply {

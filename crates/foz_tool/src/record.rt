@@ -10,7 +10,7 @@ ghost use Rattle.foz_text.specs.RecordText.{is_refused};
 ghost use Rattle.foz_base.specs.Ending.{Makes, Causes, HasCauses};
 ghost use Rattle.foz_base.specs.FileWork.{FileLeaves};
 ghost use Rattle.foz_base.specs.Outside.{file_of, history_of, files_of, FileFaultRose, IsSettledFile, WorksOn};
-ghost use Rattle.foz_tool.specs.RecordRun.{IsRecordTold, Records, is_full, status_of_answers};
+ghost use Rattle.foz_tool.specs.RecordRun.{IsRecordTold, Records, lacks_room, status_of_answers};
 ghost use Rattle.foz_base.specs.Recording.{IsDone, StopsRecording};
 
 use crate::host::{Host, Seen};
@@ -21,26 +21,25 @@ use driver_check::Driver;
 use foz_base::{Printout, Recording, Stop, finish, read_input, write_file};
 use foz_text::{is_refused, push_record};
 use foz_words::{Name, Row};
-use record_words::{Answered, LineAnswer, RecordReply, lines_in_order_make_a_record};
+use input_lines::lines_are_few;
+use record_words::{Answered, LineAnswer, lines_in_order_make_a_record};
 use std::alloc::Global;
 
-fn is_full<C>(answered: &Answered<C>) -> bool
-    ensures { result ≡ is_full answered.now }
+/// Has the state of the line no room?
+fn lacks_room<C>(answered: &Answered<C>) -> bool
+    ensures { result ≡ lacks_room answered.now }
 {
     match &answered.answer {
         LineAnswer::Refused(_) => false,
-        LineAnswer::Replied { reply, .. } => matches!(
-            reply,
-            RecordReply::Full { .. } | RecordReply::TooMany { .. }
-        ),
+        LineAnswer::Replied { reply, .. } => reply.is_full(),
     }
 }
 
-/// Has a line no room?
-fn is_any_full<C>(answers: &[Answered<C>]) -> bool
-    ensures { result ≡ list_any is_full answers.now }
+/// Has the state of a line no room?
+fn any_lacks_room<C>(answers: &[Answered<C>]) -> bool
+    ensures { result ≡ list_any lacks_room answers.now }
 {
-    answers.iter().any(|one| is_full(one))
+    answers.iter().any(|one| lacks_room(one))
 }
 
 /// Is a line neither new nor known?
@@ -54,7 +53,7 @@ fn is_any_refused<C>(answers: &[Answered<C>]) -> bool
 fn status_of_answers<C>(answers: &[Answered<C>]) -> u8
     ensures { result ≡ status_of_answers answers.now }
 {
-    if is_any_full(answers) {
+    if any_lacks_room(answers) {
         8
     } else if is_any_refused(answers) {
         1
@@ -85,6 +84,7 @@ fn record<I: Source, F: Shelf>(
         Causes (Rose (I.faults input.old) (I.faults input.new)) (F.tells → FileFaultRose (seen (F.places files.old) (F.faults files.old)) (seen (F.places files.new) (F.faults files.new)) name.now) result }
 {
     lines_in_order_make_a_record::<LineError>();
+    lines_are_few();
     let capture = read_input(alloc, input)?;
     let lines = CaptureReader::new(capture.as_slice());
     let report = write_file(alloc, files, name, Recording { lines })?;
@@ -101,10 +101,10 @@ pub fn record_cmd<I: Source, O: Sink, F: Shelf, R: Driver>(
     alloc: Global,
     host: &mut Host<I, O, F, R>,
     file: Name,
-    _threads: u32,
+    threads: u32,
 ) -> u8
     requires here { F.tells → F.places host.old.files file ≢ out }
-    requires one_thread { _threads ≡ 1 }
+    requires one_thread { threads ≡ 1 }
 
     ensures records { let seen = ⟦<Host<I, O, F, R> as Seen>⟧ in Records line_cause_text lines_said seen.tells (seen.outside host.old) (seen.outside host.new) file result }
     ensures works { WorksOn F.tells (F.places host.old.files) (F.places host.new.files) file }

@@ -8,6 +8,7 @@ ghost use Rattle.foz_base.specs.Outside.{Outside};
 ghost use Rattle.foz_tool.specs.WorkerRun.{IsSession, status_of_served};
 
 use driver_check::Driver;
+use worker_node::sessions_have_one_end;
 
 /// The statuses of `worker`, whatever driver it has.
 pub fn worker_statuses<R: Driver>()
@@ -31,7 +32,9 @@ pub fn worker_statuses<R: Driver>()
 
     ensures write_fault { (before after : Outside R.Meaning) (status : ℕ) → IsSession R.creates before after status → status ≡ 4 → Rose before.output_faults after.output_faults }
 
-    // With 4 and 7 some of what was taken was worked off, and a front of what that comes to was written.
+    // With 4 and 7 some of what was taken was worked off, and a prefix of what that comes to was written.
     ensures cut_short { (before after : Outside R.Meaning) (status : ℕ) → (serves : IsSession R.creates before after status) → (status ≡ 4) ⊎ (status ≡ 7)
         → (out : List ℕ) × (after.written ≡ before.written ++ out) × IsCutShort R.creates before.driver serves.taken out after.driver }
-{}
+{
+    sessions_have_one_end::<R>();
+}

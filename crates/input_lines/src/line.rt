@@ -3,7 +3,7 @@ ghost use Rattle.input_lines.specs.Lines.{lines_of};
 
 use memchr::memchr;
 
-/// The first line of what is left of an input, without its line feed, and what stands behind it. It is `None` exactly
+/// The first line of what is left of an input, without its line feed, and what stands after it. It is `None` exactly
 /// where nothing is left.
 pub fn first_line(input: &[u8]) -> Option<(&[u8], &[u8])>
     ensures first { IfSome result (λ parts. lines_of input.now ≡ parts.0.now ∷ lines_of parts.1.now) }

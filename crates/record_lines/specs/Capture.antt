@@ -1,6 +1,6 @@
 -- How the record of a capture in the archive on a disk ends, and what a crash leaves of it.
-use Rattle.std.specs.Prelude.{◌≡◌, ℕ, ◌≤◌, List, length, take, Result, Ok, Err}
-use Rattle.disk_model.specs.Disk.{History, GoesOn, MightHaveLeft}
+use Rattle.std.specs.Prelude.{◌≡◌, ℕ, List, length, Result, Ok, Err}
+use Rattle.disk_model.specs.Disk.{History, GoesOn}
 use Rattle.foz_entry.specs.declared.cut.Entry.{Entry}
 use Rattle.foz_archive.specs.declared.refusal.ArchiveError.{ArchiveError}
 use Rattle.foz_archive.specs.declared.opening.OpenCause.{OpenCause}
@@ -14,7 +14,8 @@ use Rattle.record_lines.specs.declared.recording.RecordStop.{RecordStop}
 use Rattle.record_lines.specs.declared.recording.RecordStop.TheVariants as record_stops
 use Rattle.record_lines.specs.declared.capture.CaptureStop.{CaptureStop}
 use Rattle.record_lines.specs.declared.capture.CaptureStop.TheVariants.{Archive, DiskFault, Memory}
-use Rattle.record_lines.specs.Recording.{AreRecorded, IsFrontRecorded}
+use Rattle.record_lines.specs.Recording.{AreRecorded}
+use Rattle.record_lines.specs.Batches.{LeavesBatches}
 
 abbrev pub stop_of_open : OpenCause → CaptureStop
 stop_of_open open_causes.DiskFault = DiskFault
@@ -30,10 +31,6 @@ pub record IsLeftRefused (before after : List ℕ) (error : ArchiveError) : Type
   pub refused : IsRefusedToWrite before error
   pub not_new : ¬ IsNew before
   pub same : after ≡ before
-
--- the bytes hold the entries before and some of those behind them, in order
-abbrev pub HoldsFront : List Entry → List Entry → List ℕ → Type 0
-HoldsFront before later bytes = (n : ℕ) × (length before ≤ n) × (n ≤ length later) × Holds bytes (take n later)
 
 module _ {Cause : Type 0} where
   -- the report is one of these lines, recorded in order on some entries
@@ -59,14 +56,7 @@ module _ {Cause : Type 0} where
   CaptureEnds before after fault lines (Err DiskFault) = fault
   CaptureEnds before after fault lines (Err Memory) = Unit {0}
 
-  -- A front of the lines was recorded, and a crash at each moment leaves the entries before and some of those that it
-  -- added, in order. So of two crashes one leaves a front of what the other leaves.
-  pub record LeavesFronts (entries : List Entry) (old new : History) (lines : List (Line Cause)) : Type 0 where
-    pub later : List Entry
-    pub recorded : IsFrontRecorded entries lines later
-    pub each : (bytes : List ℕ) → MightHaveLeft new old.moment bytes → HoldsFront entries later bytes
-
   -- wherever it ends, of a content that held a list of entries
   pub record CaptureLeaves (before : List ℕ) (old new : History) (lines : List (Line Cause)) : Type 0 where
     pub goes_on : GoesOn old new
-    pub fronts : (entries : List Entry) → Holds before entries → LeavesFronts entries old new lines
+    pub batches : (entries : List Entry) → Holds before entries → LeavesBatches entries lines old new

@@ -10,7 +10,7 @@ module _ {Cause : Type 0} where
   line_of (Refused cause) = refused cause
   line_of (Read key payload) = read key payload
 
-  -- this is the first of the lines before, and behind it come those that are left
+  -- this is the first of the lines before, and after it come those that are left
   abbrev pub IsNext : List (Line Cause) → Option (NextLine Cause) → List (Line Cause) → Type 0
   IsNext before None after = before ≡ []
   IsNext before (Some line) after = before ≡ line_of line ∷ after

@@ -22,9 +22,9 @@ module _ {Cause : Type 0} where
     pub are : AreAnswers before lines threads later answers
     pub told : answered ≡ answered_from 1 lines answers
 
-  -- the entries are those after a front of the lines was recorded in order, and no other line
-  pub record IsFrontRecorded (before : List Entry) (lines : List (Line Cause)) (later : List Entry) : Type 0 where
+  -- the entries are those after a prefix of the lines was recorded in order, and no other line
+  pub record IsPrefixRecorded (before : List Entry) (lines : List (Line Cause)) (later : List Entry) : Type 0 where
     pub done : List (Line Cause)
     pub rest : List (Line Cause)
-    pub front : lines ≡ done ++ rest
+    pub prefix : lines ≡ done ++ rest
     pub entries : later ≡ entries_alone before done

@@ -7,7 +7,7 @@ ghost use Rattle.record_lines.specs.Capture.{AreAnswered, CaptureEnds, CaptureLe
 use crate::line::Lines;
 use crate::recording::{RecordStop, Report, record_lines};
 use disk_model::Disk;
-use foz_archive::{ArchiveError, OpenCause, OpenRefused};
+use foz_archive::{ArchiveError, OpenCause, OpenRefused, readings_are_unique};
 use record_dedup::Book;
 use std::alloc::Global;
 
@@ -68,6 +68,7 @@ pub fn record_capture<D: Disk, L: Lines>(
     ensures fault { result.outcome ≡ Err CaptureStop.DiskFault → Rose (D.faults disk) (D.faults result.disk) }
     ensures later { D.faults disk ≤ D.faults result.disk }
 {
+    readings_are_unique();
     let mut book = match Book::open(alloc, disk) {
         Ok(book) => book,
         Err(OpenRefused { disk, cause }) => {

@@ -1,13 +1,16 @@
 //! The engine of one thread.
-ghost use Rattle.std.specs.Prelude.{◌≡◌, ◌≢◌, ◌⊎◌, ◌≤◌, ◌<◌, ◌+◌, ◌^◌, ◌∷◌, ◌++◌, [], false, true, length, IfOk, OnOk, OnErr};
+ghost use Rattle.std.specs.Prelude.{◌≡◌, ◌≢◌, ◌⊎◌, ◌≤◌, ◌<◌, ◌+◌, ◌^◌, ◌∷◌, ◌++◌, [], false, true, length, take, IfOk, OnOk, OnErr};
+ghost use Rattle.disk_model.specs.Disk.{LeavesOnly};
 ghost use Rattle.disk_model.specs.Faults.{Rose};
+ghost use Rattle.foz_archive.specs.Reading.{Holds};
 ghost use Rattle.record_words.specs.Recorder.{reply_of};
 ghost use Rattle.record_words.specs.Alone.{after_record, entries_alone, answers_alone};
 ghost use Rattle.record_words.specs.Answered.{answered_from};
 ghost use Rattle.record_dedup.specs.Kept.{Booked, IsWritten};
 ghost use Rattle.record_lines.specs.declared.recording.RecordStop.TheVariants.{Memory};
 ghost use Rattle.record_lines.specs.Lines.{line_of};
-ghost use Rattle.record_lines.specs.Recording.{AreRecorded, IsFrontRecorded};
+ghost use Rattle.record_lines.specs.Recording.{AreRecorded, IsPrefixRecorded};
+ghost use Rattle.record_lines.specs.Batches.{AreDurable, LeavesBatches, records_of};
 
 use crate::line::{Lines, NextLine};
 use disk_model::Disk;
@@ -71,8 +74,12 @@ pub fn record_lines<D: Disk, L: Lines>(
     ensures written { OnOk result (IsWritten D.tells_content D.tells_images (D.content book.new.disk) (D.history book.new.disk) book.new.entries) }
 
     // Wherever it ends, a prefix of the lines was recorded, and at most 64 entries wait to be written.
-    ensures front { IsFrontRecorded book.old.entries (L.rest lines.old) book.new.entries }
+    ensures prefix { IsPrefixRecorded book.old.entries (L.rest lines.old) book.new.entries }
     ensures few_wait { length book.new.entries ≤ book.new.flushed + 64 }
+
+    // At each moment a crash leaves the entries after some batches of 64 records, or after one batch more.
+    ensures batches { D.tells_images → AreDurable (D.history book.old.disk) book.old.entries
+        → LeavesBatches book.old.entries (L.rest lines.old) (D.history book.old.disk) (D.history book.new.disk) }
 
     ensures same { (book.new.began ≡ book.old.began) × (book.new.opened ≡ book.old.opened) }
     ensures later { D.faults book.old.disk ≤ D.faults book.new.disk }
@@ -102,7 +109,8 @@ fn answer<D: Disk, C: Drop>(
     ensures answered { OnOk result (answers.new ≡ answers.old ++ answered_from number (line_of line ∷ []) (answers_alone book.old.entries (line_of line ∷ []))) }
     ensures recorded { OnOk result (book.new.entries ≡ entries_alone book.old.entries (line_of line ∷ [])) }
     ensures refused { OnErr result ((book.new.entries ≡ book.old.entries) ⊎ (book.new.entries ≡ entries_alone book.old.entries (line_of line ∷ []))) }
-    ensures records { IfOk result (λ records. records ≤ 1) }
+    ensures counted { IfOk result (λ records. records ≡ length (records_of (line_of line ∷ []))) }
+    ensures one { IfOk result (λ records. records ≤ 1) }
     ensures few { IfOk result (λ records. length book.new.entries ≤ length book.old.entries + records) }
     ensures same { book.new ≡ record book.old { entries = book.new.entries } }
 {
@@ -126,7 +134,7 @@ fn answer<D: Disk, C: Drop>(
     }
 }
 
-/// Records a payload. Want of memory changes nothing.
+/// Records a payload. Where memory runs out nothing changes.
 fn record<D: Disk>(book: &mut Book<D>, key: Key, payload: &[u8]) -> Result<RecordReply, NoMemory>
     requires whole { book.old.broken ≡ false }
 
@@ -147,7 +155,11 @@ fn write_full<D: Disk>(book: &mut Book<D>, unwritten: u32) -> Result<u32, Record
     requires at_most { unwritten ≤ 64 }
 
     ensures left { IfOk result (λ left. left < 64) }
+    ensures batch { IfOk result (λ left. ((unwritten < 64) × (left ≡ unwritten) × (book.new.flushed ≡ book.old.flushed)) ⊎ ((unwritten ≡ 64) × (left ≡ 0) × (book.new.flushed ≡ length book.old.entries))) }
     ensures wait { length book.old.entries ≤ book.old.flushed + unwritten → IfOk result (λ left. length book.new.entries ≤ book.new.flushed + left) }
+    ensures idle { unwritten < 64 → book.new ≡ book.old }
+    ensures any_moment { D.tells_images → 64 ≤ unwritten → LeavesOnly (D.history book.old.disk) (D.history book.new.disk)
+        (λ bytes. Holds bytes (take book.old.flushed book.old.entries) ⊎ Holds bytes book.old.entries) }
     ensures refused { OnErr result ((book.new.flushed ≡ book.old.flushed) × (book.new.broken ≡ true)) }
     ensures whole { OnOk result (book.new.broken ≡ false) }
     ensures entries { book.new.entries ≡ book.old.entries }

@@ -31,7 +31,7 @@ fresh_after before earlier (e ∷ es) = if is_some (holder e.0 before) || is_amo
 abbrev pub fresh : List Entry → List Element → List Element
 fresh before elements = fresh_after before [] elements
 
--- the entries with those of the elements behind them
+-- the entries with those of the elements after them
 abbrev pub laid : List Entry → List Element → List Entry
 laid entries [] = entries
 laid entries (e ∷ es) = laid (entries ++ entry_of (end_of entries) e.0 e.1 ∷ []) es

@@ -54,6 +54,6 @@ Legal origin story = (before : List FullNote) (n : FullNote) (rest : List FullNo
 abbrev pub HasNoFault : List FullNote → Type 0
 HasNoFault story = All (λ n. n.note.reply ≢ DiskFault) story
 
--- each entry behind the first ones has a key that no undamaged entry before it has
+-- each entry after the first ones has a key that no undamaged entry before it has
 abbrev pub AreApart : List Entry → List Entry → Type 0
 AreApart before later = (i : ℕ) (x y : Entry) (j : ℕ) → length before ≤ i → j < i → At later i x → At later j y → is_undamaged y ≡ true → y.head.key ≢ x.head.key

@@ -15,7 +15,7 @@ pub fn keys_are_compared()
     ensures turned { (a b : Key) → is_key a b ≡ is_key b a }
 {}
 
-/// A holder stands among the entries. An entry behind them holds its key where it is the first of it, and else adds no
+/// A holder stands among the entries. An entry after them holds its key where it is the first of it, and else adds no
 /// holder.
 pub fn first_of_its_key_holds_it()
     ensures none { (key : Key) → holder key [] ≡ None }

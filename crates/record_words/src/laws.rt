@@ -28,9 +28,11 @@ pub fn one_thread_has_one_record<Cause>()
         → Recorded text_of before lines 1 later text → Recorded text_of before lines 1 other written → (later ≡ other) × (text ≡ written) }
 {}
 
-/// Recording the lines in order is a record of one thread, and adds no key that is held already.
+/// Recording the lines in order is a record of one thread, the only one, and adds no key that is held already.
 pub fn lines_in_order_make_a_record<Cause>()
     ensures recorded { (before : List Entry) (lines : List (Line Cause)) → AreAnswers before lines 1 (entries_alone before lines) (answers_alone before lines) }
+    ensures only { (before later : List Entry) (lines : List (Line Cause)) (answers : List (Answer Cause)) → AreAnswers before lines 1 later answers
+        → (answers ≡ answers_alone before lines) × (later ≡ entries_alone before lines) }
     ensures apart { (before : List Entry) (lines : List (Line Cause)) → AreApart before (entries_alone before lines) }
 {}
 

@@ -1,4 +1,5 @@
 pub mod Runs
+pub mod OneEnd
 pub mod Payloads
 pub mod Endings
 pub mod Taken

@@ -3,10 +3,12 @@
 
 mod creating;
 mod ends;
+mod laws;
 mod served;
 mod serving;
 mod working;
 
+pub use laws::sessions_have_one_end;
 pub use served::Served;
 pub use serving::serve;
 

@@ -9,7 +9,7 @@ write_file-requires-clause-ready g c κs within = omega (arith, ap length c.new-
 
 pub unreachable-requires : goal.unreachable-requires
 unreachable-requires g c =
-    always_replied c.args.key _ _ c.new-lines.ensures c.in_ok-report.report c.in_ok-report.ensures.tells (ap only_reply (sym c.as_slice.ensures) ∙ sym c.only_reply.ensures ∙ c.in-None.is)
+    always_replied c.lines_in_order_make_a_record.ensures.only c.args.key _ _ c.new-lines.ensures c.in_ok-report.report c.in_ok-report.ensures.tells (ap only_reply (sym c.as_slice.ensures) ∙ sym c.only_reply.ensures ∙ c.in-None.is)
 
 pub returns-in_err-report-clause-leaves : goal.returns-in_err-report-clause-leaves
 returns-in_err-report-clause-leaves g c = λ input shelf images.
@@ -26,5 +26,5 @@ returns-clause-makes g c = λ input shelf content.
     let reads = c.in_ok-payload.ensures.reads input in
     let lines = c.new-lines.ensures ∙ ap (λ (payload : List ℕ). read c.args.key payload ∷ []) reads.whole in
     let only = ap only_reply (sym c.as_slice.ensures) ∙ sym c.only_reply.ensures ∙ c.in-Some.is in
-    put_makes _ _ _ _ _ _ c.args.key c.in-Some.reply (is_put _ _ (input_read _ _ _ reads) _ _ c.args.key c.in_ok-report.report c.in-Some.reply _ lines (c.in_ok-report.ensures.does shelf content) only) c.reply_told.result
+    put_makes _ _ _ _ _ _ c.args.key c.in-Some.reply (is_put c.lines_in_order_make_a_record.ensures.only _ _ (input_read _ _ _ reads) _ _ c.args.key c.in_ok-report.report c.in-Some.reply _ lines (c.in_ok-report.ensures.does shelf content) only) c.reply_told.result
     c.reply_told.ensures.told c.reply_told.ensures.untold

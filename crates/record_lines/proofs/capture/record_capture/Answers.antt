@@ -1,21 +1,17 @@
-use Rattle.std.proofs.Common.{◌∙◌, refl, sym, subst}
+use Rattle.std.proofs.Common.{sym, subst}
 use Rattle.disk_model.specs.Disk.{latest, NothingPending}
 use Rattle.record_lines.proofs.Images.{opening_leaves, book_leaves}
 use Rattle.record_lines.proofs.capture.record_capture.Goals as goal
 
 pub returns-in-Err-clause-leaves : goal.returns-in-Err-clause-leaves
 returns-in-Err-clause-leaves g c told durable =
-    opening_leaves _ _ _ durable (g.met.D.Disk.content_is_now c.args.disk told) _ (c.in-Err.ensures.any_moment told)
+    opening_leaves _ c.readings_are_unique.ensures.one_content _ _ durable (g.met.D.Disk.content_is_now c.args.disk told) _ (c.in-Err.ensures.any_moment told)
 
 pub returns-in-Ok-record_lines-clause-leaves : goal.returns-in-Ok-record_lines-clause-leaves
 returns-in-Ok-record_lines-clause-leaves g c told durable =
-    let d = g.D.Disk in
-    let both = g.met.D.Disk.tells_both told in
-    let same = c.record_lines.ensures.same in
-    let whole = c.in-Ok.ensures.whole in
     rw c.close.ensures.disk (
-    book_leaves _ _ _ durable (g.met.D.Disk.content_is_now c.args.disk told) d.tells_content d.tells_images d.content d.history d.faults c.args.disk refl c.record_lines.new.book c.close.ensures.kept (same.0 ∙ whole.3)
-    c.in-Ok.book.entries (c.in-Ok.ensures.held both) (same.1 ∙ whole.0) c.record_lines.ensures.front told
+    book_leaves _ c.readings_are_unique.ensures.one_content _ _ durable (g.met.D.Disk.content_is_now c.args.disk told) _ _ (c.in-Ok.ensures.any_moment told)
+    c.in-Ok.book.entries (c.in-Ok.ensures.held (g.met.D.Disk.tells_both told)) (c.record_lines.ensures.batches told)
     )
 
 pub returns-in-Ok-record_lines-clause-durable : goal.returns-in-Ok-record_lines-clause-durable
@@ -24,11 +20,7 @@ returns-in-Ok-record_lines-clause-durable g c told ok =
 
 pub returns-in-Err-record_lines-clause-leaves : goal.returns-in-Err-record_lines-clause-leaves
 returns-in-Err-record_lines-clause-leaves g c told durable =
-    let d = g.D.Disk in
-    let both = g.met.D.Disk.tells_both told in
-    let same = c.record_lines.ensures.same in
-    let whole = c.in-Ok.ensures.whole in
     rw c.close-in-Err-record_lines.ensures.disk (
-    book_leaves _ _ _ durable (g.met.D.Disk.content_is_now c.args.disk told) d.tells_content d.tells_images d.content d.history d.faults c.args.disk refl c.record_lines.new.book c.close-in-Err-record_lines.ensures.kept (same.0 ∙ whole.3)
-    c.in-Ok.book.entries (c.in-Ok.ensures.held both) (same.1 ∙ whole.0) c.record_lines.ensures.front told
+    book_leaves _ c.readings_are_unique.ensures.one_content _ _ durable (g.met.D.Disk.content_is_now c.args.disk told) _ _ (c.in-Ok.ensures.any_moment told)
+    c.in-Ok.book.entries (c.in-Ok.ensures.held (g.met.D.Disk.tells_both told)) (c.record_lines.ensures.batches told)
     )

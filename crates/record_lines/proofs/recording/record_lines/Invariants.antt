@@ -1,10 +1,13 @@
 use Rattle.std.proofs.Common.{◌≡◌, ◌<◌, ◌≤◌, ◌+◌, length, false}
-use Rattle.record_lines.proofs.Fronts.{IsSoFar}
+use Rattle.record_lines.specs.Batches.{AreDurable, LeavesBatches}
+use Rattle.record_lines.proofs.SoFar.{IsSoFar}
 use Rattle.record_lines.proofs.recording.record_lines.Given as goal
 
 abbrev pub invariant-loop-answers : goal.invariant-loop-answers
 invariant-loop-answers g l = record {
-  so_far : IsSoFar l.fn.book.entries l.book.entries (g.L.Lines.rest l.fn.lines) (g.L.Lines.rest l.lines) l.number l.answers;
+  so_far : IsSoFar l.fn.book.entries l.book.entries (g.L.Lines.rest l.fn.lines) (g.L.Lines.rest l.lines) l.number l.answers l.book.flushed l.unwritten;
+  images : g.D.Disk.tells_images → AreDurable (g.D.Disk.history l.fn.book.disk) l.fn.book.entries
+      → LeavesBatches l.fn.book.entries (g.L.Lines.rest l.fn.lines) (g.D.Disk.history l.fn.book.disk) (g.D.Disk.history l.book.disk);
   whole : l.book.broken ≡ false;
   few : l.unwritten < 64;
   wait : length l.book.entries ≤ l.book.flushed + l.unwritten;
