@@ -98,6 +98,27 @@ fn content_is(rt: &impl Abort, alloc: Global, disk: &MemDisk, parts: &[&[u8]]) -
     Ok(())
 }
 
+/// Flushes a book: so many entries then stand in the file. Gives where they end.
+fn flushes(rt: &impl Abort, book: &mut Book<MemDisk>, count: u32) -> u64 {
+    assert_eq!(rt; book.flush(), Ok(count));
+    assert_eq!(rt; book.flushed(), count);
+    book.end()
+}
+
+/// The disk of a book over these bytes once this was recorded and flushed, and where its entries end.
+fn written(
+    rt: &impl Abort,
+    alloc: Global,
+    before: &[&[u8]],
+    recorded: &[Recorded],
+    count: u32,
+) -> Result<(MemDisk, u64), Fail> {
+    let mut book = book(alloc, before, &[])?;
+    is_answered(rt, &mut book, recorded);
+    let end = flushes(rt, &mut book, count);
+    Ok((book.close(), end))
+}
+
 /// Records in a book over these bytes, and flushes it: so many entries then stand in the file, and these are its bytes.
 fn leaves(
     rt: &impl Abort,
@@ -107,14 +128,14 @@ fn leaves(
     count: u32,
     after: &[&[u8]],
 ) -> Result<(), Fail> {
-    let mut book = book(alloc, before, &[])?;
-    is_answered(rt, &mut book, recorded);
-    assert_eq!(rt; book.flush(), Ok(count));
-    assert_eq!(rt; book.flushed(), count);
-    let end = book.end();
-    let disk = book.close();
-    assert_eq!(rt; end.checked_add(1), Some(disk.content().len() as u64));
+    let (disk, end) = written(rt, alloc, before, recorded, count)?;
+    ends_at(rt, &disk, end);
     content_is(rt, alloc, &disk, after)
+}
+
+/// The byte at this place is the last one.
+fn ends_at(rt: &impl Abort, disk: &MemDisk, end: u64) {
+    assert_eq!(rt; end.checked_add(1), Some(disk.content().len() as u64));
 }
 
 #[test]
@@ -195,8 +216,17 @@ const NO_CALL: u64 = 9;
 fn stopped(rt: &impl Abort, alloc: Global, call: u64) -> Result<MemDisk, Fail> {
     let mut book = book(alloc, &[HEADER, b"\0"], &[call])?;
     is_answered(rt, &mut book, &[FIRST_IS_NEW, SECOND_IS_NEXT]);
-    assert_eq!(rt; book.flush().is_ok(), call == NO_CALL);
+    is_flushed(rt, &mut book, call == NO_CALL);
     Ok(book.close())
+}
+
+/// Does the flush succeed?
+fn is_flushed(rt: &impl Abort, book: &mut Book<MemDisk>, wanted: bool) {
+    assert_eq!(rt; book.flush().is_ok(), wanted);
+}
+
+fn has_entries(rt: &impl Abort, book: &Book<MemDisk>, count: usize) {
+    assert_eq!(rt; book.entries().len(), count);
 }
 
 /// A crash then leaves so many entries.
@@ -210,7 +240,7 @@ fn crash_leaves(
 ) -> Result<(), Fail> {
     let disk = stopped(rt, alloc, call)?;
     let after = opened(alloc, disk.crash(fill, keep))?;
-    assert_eq!(rt; after.entries().len(), count);
+    has_entries(rt, &after, count);
     Ok(())
 }
 
@@ -228,23 +258,29 @@ fn a_stop_in_a_flush_leaves_all_or_none(rt: HostRuntime) -> Result<(), Fail> {
     Ok(())
 }
 
+const FIRST_IS_NEXT: Recorded = Recorded {
+    key: FIRST_KEY,
+    payload: b"",
+    answer: Ok(Ack::New { index: 1 }),
+};
+
+const IS_BROKEN: Recorded = Recorded {
+    key: SECOND_KEY,
+    payload: b"123456789",
+    answer: Err(RecordError::Broken),
+};
+
+fn breaks_at_a_flush(rt: &impl Abort, book: &mut Book<MemDisk>) {
+    assert_eq!(rt; book.flush(), Err(FlushError::DiskFault));
+    assert_eq!(rt; book.flush(), Err(FlushError::Broken));
+}
+
 /// A flush in which this call fails breaks the book.
 fn breaks(rt: &impl Abort, alloc: Global, call: u64) -> Result<(), Fail> {
     let mut book = book(alloc, &[HEADER, SECOND, b"\0"], &[call])?;
-    let first = Recorded {
-        key: FIRST_KEY,
-        payload: b"",
-        answer: Ok(Ack::New { index: 1 }),
-    };
-    let broken = Recorded {
-        key: SECOND_KEY,
-        payload: b"123456789",
-        answer: Err(RecordError::Broken),
-    };
-    is_answered(rt, &mut book, &[first]);
-    assert_eq!(rt; book.flush(), Err(FlushError::DiskFault));
-    assert_eq!(rt; book.flush(), Err(FlushError::Broken));
-    is_answered(rt, &mut book, &[broken]);
+    is_answered(rt, &mut book, &[FIRST_IS_NEXT]);
+    breaks_at_a_flush(rt, &mut book);
+    is_answered(rt, &mut book, &[IS_BROKEN]);
     Ok(())
 }
 
