@@ -6,7 +6,6 @@
 What is new is synced twice for 64 records, which costs what the disk takes for it; what is known isn't written at all. The least
 time of the rounds counts, and the sync of this disk is measured first. It prints figures and judges none.
 """
-import importlib
 import os
 import random
 import sqlite3
@@ -15,7 +14,7 @@ import sys
 import tempfile
 import time
 
-states = importlib.import_module("second-states")
+from second import states
 
 BATCH = 64
 WORDS = 256
@@ -94,7 +93,7 @@ def main():
             for state in modules(count):
                 text.write(states.line_of("shader_module", state))
                 hash_ = f"{states.hash_of('shader_module', state):016x}"
-                rows.append((states.KINDS["shader_module"][0], hash_, states.payload_of("shader_module", state)))
+                rows.append((states.KINDS["shader_module"].tag, hash_, states.payload_of("shader_module", state)))
         size = sum(56 + len(row[2]) for row in rows)
         sync = sync_time(os.path.join(folder, "sync"), size * BATCH // count)
         print(f"{count} modules, {size / 1e6:.1f} MB of entries, a sync of {sync * 1e3:.2f} ms")

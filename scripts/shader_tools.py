@@ -3,7 +3,7 @@
 that the disassembler spirv-dis lists. Both tools are in Debian's packages glslang-tools and spirv-tools; without them nothing
 is tried.
 
-    scripts/shader-tools.py PROGRAM
+    scripts/shader_tools.py PROGRAM
 
 Each module is asked for each stage and each name that some module has, and for a few that none has, by a pipeline that names
 it so. Such a pipeline must be done where the disassembler lists the entry point, and refused with the code of a missing
@@ -11,11 +11,11 @@ entry point where it doesn't. Modules out of which the assembler left what a mod
 """
 import base64
 import re
-import shutil
 import subprocess
-import sys
-import tempfile
 from pathlib import Path
+
+from harness import same, tried
+from second import lines
 
 TOOLS = ["glslangValidator", "spirv-dis", "spirv-as"]
 
@@ -118,8 +118,7 @@ class Bench:
         return subprocess.run(words, check=True, capture_output=True, text=True).stdout
 
     def foz(self, words, given=b""):
-        run = subprocess.run([self.program, *words], input=given, capture_output=True, cwd=self.folder)
-        return run.returncode, run.stdout.decode()
+        return self.program.run(words, given, cwd=self.folder)
 
 
 def modules_of(bench):
@@ -165,63 +164,64 @@ def pipeline_line(number, hashes, whole, module, bit, name):
         number, stages, hashes["pipeline_layout"], hashes["render_pass"])
 
 
-def hashes_of(bench, lines):
-    status, out = bench.foz(["hash"], "\n".join(lines).encode())
-    assert status == 0, out
-    return [line.split()[2] for line in out.splitlines()]
+def hashes_of(capture):
+    """The hashes of the states of these lines, by the second reader of lines."""
+    run = lines.hash_run("\n".join(capture).encode())
+    same("the status of a capture", run.status, 0)
+    return [line.split()[2] for line in run.output.decode().splitlines()]
 
 
-def checked(bench, file, lines):
+def checked(bench, file, capture):
     """The words of `check` for each line of a capture, which is recorded first."""
-    status, out = bench.foz(["record", file], "\n".join(lines).encode())
-    assert status == 0 and len(out.splitlines()) == len(lines) + 1, out
-    places = [int(line.split()[-1]) for line in out.splitlines()[:-1]]
-    status, out = bench.foz(["check", file])
-    verdicts = [" ".join(line.split()[3:]) for line in out.splitlines()]
-    return status, [verdicts[place] for place in places]
+    run = bench.foz(["record", file], "\n".join(capture).encode())
+    recorded = run.output.decode().splitlines()
+    same("the status and the lines of a record", (run.status, len(recorded)), (0, len(capture) + 1))
+    places = [int(line.split()[-1]) for line in recorded[:-1]]
+    run = bench.foz(["check", file])
+    verdicts = [" ".join(line.split()[3:]) for line in run.output.decode().splitlines()]
+    same("the status of a check", run.status, 1)
+    return [verdicts[place] for place in places]
 
 
 def compare_entry_points(bench):
     modules = modules_of(bench)
     listed = [set(ENTRY.findall(bench.disassembled(code))) for code in modules]
     names = sorted({name for entries in listed for _, name in entries} | {"mai", "main ", "Main", ""})
-    base = ["pipeline_layout {}", 'render_pass {"subpasses":[{}]}']
-    found = hashes_of(bench, base + [module_line(code) for code in modules])
+    capture = ["pipeline_layout {}", 'render_pass {"subpasses":[{}]}'] + [module_line(code) for code in modules]
+    found = hashes_of(capture)
     hashes, keys = dict(zip(["pipeline_layout", "render_pass"], found)), found[2:]
     whole = {bit: keys[listed.index({(model, "main")})] for bit, (model, _) in STAGES.items()}
-    lines, expected = base + [module_line(code) for code in modules], ["done"] * len(found)
+    expected = ["done"] * len(found)
     for module, entries in zip(keys, listed):
         for bit, (model, _) in STAGES.items():
             for name in names:
-                lines.append(pipeline_line(len(lines), hashes, whole, module, bit, name))
+                capture.append(pipeline_line(len(capture), hashes, whole, module, bit, name))
                 missing = "refused 29" if bit == 32 else "refused 34"
                 expected.append("done" if (model, name) in entries else missing)
-    status, verdicts = checked(bench, "stages.foz", lines)
-    assert status == 1
-    wrong = [(line, seen, right) for line, seen, right in zip(lines, verdicts, expected) if seen != right]
-    assert not wrong, wrong[0]
-    return len(modules), len(lines) - len(found)
+    for line, seen, right in zip(capture, checked(bench, "stages.foz", capture), expected):
+        same("an entry point", seen, right, line=line)
+    return len(modules), len(capture) - len(found)
 
 
 def compare_faults(bench):
     faulty = [pair for ending in SHADERS for pair in faulty_modules(bench, bench.compiled(ending, "main", False))]
-    status, verdicts = checked(bench, "faults.foz", [module_line(code) for code, _ in faulty])
-    assert status == 1
-    for (code, right), seen in zip(faulty, verdicts):
-        assert seen == f"refused {right}", (right, seen, code[:64].hex())
+    for (code, right), seen in zip(faulty, checked(bench, "faults.foz", [module_line(code) for code, _ in faulty])):
+        same("a faulty module", seen, f"refused {right}", code=code)
     return len(faulty)
 
 
+def work(trial, _):
+    if not trial.needs(*TOOLS):
+        return "nothing tried"
+    bench = Bench(trial.program, trial.folder)
+    modules, pipelines = compare_entry_points(bench)
+    faults = compare_faults(bench)
+    return f"{modules} modules, {pipelines} pipelines that ask for an entry point and {faults} faulty modules are seen alike"
+
+
 def main():
-    missing = [tool for tool in TOOLS if shutil.which(tool) is None]
-    if missing:
-        print(f"shader tools: skipped, {', '.join(missing)} not found")
-        return
-    with tempfile.TemporaryDirectory() as folder:
-        bench = Bench(str(Path(sys.argv[1]).resolve()), folder)
-        modules, pipelines = compare_entry_points(bench)
-        faults = compare_faults(bench)
-    print(f"shader tools: {modules} modules, {pipelines} pipelines that ask for an entry point, {faults} faulty modules")
+    tried(work, rounds=1, seed=1)
 
 
-main()
+if __name__ == "__main__":
+    main()
