@@ -1,0 +1,5 @@
+pub mod Ties
+pub mod Shelves
+pub mod Calls
+pub mod Seats
+pub mod Threads
