@@ -1,0 +1,4 @@
+pub mod Signing
+pub mod Counting
+pub mod Steps
+pub mod Turning
