@@ -1,0 +1,3 @@
+pub mod Taping
+pub mod Asking
+pub mod Dying

@@ -1,0 +1,6 @@
+pub mod Works
+pub mod Logs
+pub mod Loads
+pub mod Answers
+pub mod Telling
+pub mod Laws
