@@ -1,4 +1,6 @@
+//! Modules with their first fault, as tables. A shape is judged by a function that borrows it.
 use super::*;
+use foz_words::NoMemory;
 use std::alloc::Global;
 
 /// The header, with nothing after it.
@@ -43,137 +45,163 @@ const COMPUTE: [u32; 35] = [
     0x0001_0038,
 ];
 
-fn module(alloc: Global, instructions: &[u32]) -> Vec<u32> {
-    let mut words = Vec::new(alloc);
-    let _ = words.extend_from_slice(&HEADER);
-    let _ = words.extend_from_slice(instructions);
-    words
+fn module(alloc: Global, instructions: &[u32]) -> Result<Vec<u32>, NoMemory> {
+    let mut words = Vec::from_slice(alloc, &HEADER)?;
+    words.extend_from_slice(instructions)?;
+    Ok(words)
 }
 
-#[test]
-fn the_smallest_compute_module_has_one_entry_point(rt: HostRuntime) {
-    let shape = check(rt.alloc(), &COMPUTE);
-    assert!(rt; matches!(&shape, Ok(_)));
-    if let Ok(shape) = shape {
-        match shape.entries.as_slice() {
-            [entry] => {
-                assert_eq!(rt; entry.model, 5);
-                assert_eq!(rt; entry.name.as_slice(), b"main".as_slice());
-            }
-            _ => assert!(rt; false),
-        }
+/// The shape is that of one entry point `main` of the model 5.
+fn is_one_compute(shape: &Shape) -> bool {
+    match shape.entries.as_slice() {
+        [entry] => entry.model == 5 && entry.name.as_slice() == b"main".as_slice(),
+        _ => false,
+    }
+}
+
+fn has_one_compute(alloc: Global, words: &[u32]) -> bool {
+    match check(alloc, words) {
+        Ok(shape) => is_one_compute(&shape),
+        Err(_) => false,
     }
 }
 
 #[test]
+fn the_smallest_compute_module_has_one_entry_point(rt: HostRuntime) {
+    assert!(rt; has_one_compute(rt.alloc(), &COMPUTE));
+}
+
+fn has_fault(alloc: Global, words: &[u32], fault: SpirvError) -> bool {
+    match check(alloc, words) {
+        Ok(_) => false,
+        Err(found) => found == fault,
+    }
+}
+
+/// Words with their first fault.
+const HEADERS: &[(&[u32], SpirvError)] = &[
+    (&[], SpirvError::Short { len: 0 }),
+    (&[0x0723_0203, 0, 0, 0], SpirvError::Short { len: 4 }),
+    (
+        &[0x0302_2307, 0, 0, 0, 1],
+        SpirvError::BadMagic { found: 0x0302_2307 },
+    ),
+    (
+        &[0x0723_0203, 0, 0, 0, 1],
+        SpirvError::BadReserved { found: 1 },
+    ),
+    (
+        &[0x0723_0203, 0, 0, 0, 0],
+        SpirvError::MemoryModels { count: 0 },
+    ),
+];
+
+#[test]
 fn the_first_fault_of_a_header(rt: HostRuntime) {
-    let table: [(&[u32], SpirvError); 5] = [
-        (&[], SpirvError::Short { len: 0 }),
-        (&[0x0723_0203, 0, 0, 0], SpirvError::Short { len: 4 }),
-        (
-            &[0x0302_2307, 0, 0, 0, 1],
-            SpirvError::BadMagic { found: 0x0302_2307 },
-        ),
-        (
-            &[0x0723_0203, 0, 0, 0, 1],
-            SpirvError::BadReserved { found: 1 },
-        ),
-        (
-            &[0x0723_0203, 0, 0, 0, 0],
-            SpirvError::MemoryModels { count: 0 },
-        ),
-    ];
-    for (words, fault) in table.iter() {
-        assert!(rt; matches!(&check(rt.alloc(), *words), Err(found) if found == fault));
+    for (words, fault) in HEADERS {
+        assert!(rt; has_fault(rt.alloc(), *words, *fault));
+    }
+}
+
+/// Instructions with the first fault of the module that has them after its header.
+const INSTRUCTIONS: &[(&[u32], SpirvError)] = &[
+    // Framing comes before all else.
+    (
+        &[0x0001_0036, 0x0001_0036, 0x0000_0038],
+        SpirvError::BadLength { at: 7 },
+    ),
+    (&[0x0001_0038, 0x0002_000E], SpirvError::BadLength { at: 6 }),
+    // Then the memory model.
+    (&[0x0001_0038], SpirvError::MemoryModels { count: 0 }),
+    (
+        &[0x0001_000E, 0x0001_000E, 0x0001_0038],
+        SpirvError::MemoryModels { count: 2 },
+    ),
+    // Then the turns of functions, the first by place.
+    (
+        &[
+            0x0001_000E,
+            0x0001_0036,
+            0x0001_0036,
+            0x0001_0038,
+            0x0001_0038,
+        ],
+        SpirvError::Nested { at: 7 },
+    ),
+    (
+        &[0x0001_000E, 0x0001_0038, 0x0001_0036, 0x0001_0036],
+        SpirvError::Unopened { at: 6 },
+    ),
+    (
+        &[0x0001_000E, 0x0001_0036, 0x0001_0038, 0x0001_0038],
+        SpirvError::Unopened { at: 8 },
+    ),
+    (
+        &[0x0001_000E, 0x0001_0036, 0x0001_0038, 0x0001_0036],
+        SpirvError::Unclosed { at: 8 },
+    ),
+    (
+        &[0x0001_000E, 0x0001_0036, 0x0001_000F],
+        SpirvError::Unclosed { at: 6 },
+    ),
+    // Then the names of entry points.
+    (
+        &[0x0001_000E, 0x0003_000F, 5, 1],
+        SpirvError::BadName { at: 6 },
+    ),
+    (
+        &[0x0001_000E, 0x0004_000F, 5, 1, 0x6E69_616D],
+        SpirvError::BadName { at: 6 },
+    ),
+    (
+        &[0x0001_000E, 0x0004_000F, 5, 1, 0, 0x0001_000F],
+        SpirvError::BadName { at: 10 },
+    ),
+    (
+        &[0x0001_000E, 0x0001_000F, 0x0001_0036],
+        SpirvError::Unclosed { at: 7 },
+    ),
+    // Then that there is one.
+    (
+        &[0x0001_000E, 0x0001_0036, 0x0001_0038],
+        SpirvError::NoEntryPoint,
+    ),
+];
+
+fn module_has_fault(alloc: Global, instructions: &[u32], fault: SpirvError) -> bool {
+    match module(alloc, instructions) {
+        Ok(words) => has_fault(alloc, &words, fault),
+        Err(_) => false,
     }
 }
 
 #[test]
 fn the_first_fault_of_instructions(rt: HostRuntime) {
-    let table: [(&[u32], SpirvError); 14] = [
-        // Framing comes before all else.
-        (
-            &[0x0001_0036, 0x0001_0036, 0x0000_0038],
-            SpirvError::BadLength { at: 7 },
-        ),
-        (&[0x0001_0038, 0x0002_000E], SpirvError::BadLength { at: 6 }),
-        // Then the memory model.
-        (&[0x0001_0038], SpirvError::MemoryModels { count: 0 }),
-        (
-            &[0x0001_000E, 0x0001_000E, 0x0001_0038],
-            SpirvError::MemoryModels { count: 2 },
-        ),
-        // Then the turns of functions, the first by place.
-        (
-            &[
-                0x0001_000E,
-                0x0001_0036,
-                0x0001_0036,
-                0x0001_0038,
-                0x0001_0038,
-            ],
-            SpirvError::Nested { at: 7 },
-        ),
-        (
-            &[0x0001_000E, 0x0001_0038, 0x0001_0036, 0x0001_0036],
-            SpirvError::Unopened { at: 6 },
-        ),
-        (
-            &[0x0001_000E, 0x0001_0036, 0x0001_0038, 0x0001_0038],
-            SpirvError::Unopened { at: 8 },
-        ),
-        (
-            &[0x0001_000E, 0x0001_0036, 0x0001_0038, 0x0001_0036],
-            SpirvError::Unclosed { at: 8 },
-        ),
-        (
-            &[0x0001_000E, 0x0001_0036, 0x0001_000F],
-            SpirvError::Unclosed { at: 6 },
-        ),
-        // Then the names of entry points.
-        (
-            &[0x0001_000E, 0x0003_000F, 5, 1],
-            SpirvError::BadName { at: 6 },
-        ),
-        (
-            &[0x0001_000E, 0x0004_000F, 5, 1, 0x6E69_616D],
-            SpirvError::BadName { at: 6 },
-        ),
-        (
-            &[0x0001_000E, 0x0004_000F, 5, 1, 0, 0x0001_000F],
-            SpirvError::BadName { at: 10 },
-        ),
-        (
-            &[0x0001_000E, 0x0001_000F, 0x0001_0036],
-            SpirvError::Unclosed { at: 7 },
-        ),
-        // Then that there is one.
-        (
-            &[0x0001_000E, 0x0001_0036, 0x0001_0038],
-            SpirvError::NoEntryPoint,
-        ),
-    ];
-    for (instructions, fault) in table.iter() {
-        let words = module(rt.alloc(), *instructions);
-        assert!(rt; matches!(&check(rt.alloc(), words.as_slice()), Err(found) if found == fault));
+    for (instructions, fault) in INSTRUCTIONS {
+        assert!(rt; module_has_fault(rt.alloc(), *instructions, *fault));
+    }
+}
+
+/// A module of more than four megabytes with one entry point.
+fn large_module(alloc: Global) -> Result<Vec<u32>, NoMemory> {
+    let mut words = module(
+        alloc,
+        &[0x0003_000E, 0, 1, 0x0005_000F, 5, 1, 0x6E69_616D, 0],
+    )?;
+    for _ in 0..350_000u32 {
+        words.extend_from_slice(&[0x0002_0000, 7, 0x0001_0000])?;
+    }
+    Ok(words)
+}
+
+fn large_module_holds(alloc: Global) -> bool {
+    match large_module(alloc) {
+        Ok(words) => words.len() == 1_050_013 && has_one_compute(alloc, &words),
+        Err(_) => false,
     }
 }
 
 #[test]
 fn a_module_of_four_megabytes_is_checked(rt: HostRuntime) {
-    let mut words = module(
-        rt.alloc(),
-        &[0x0003_000E, 0, 1, 0x0005_000F, 5, 1, 0x6E69_616D, 0],
-    );
-    for _ in 0..350_000u32 {
-        assert!(rt;
-            words
-                .extend_from_slice(&[0x0002_0000, 7, 0x0001_0000])
-                .is_ok()
-        );
-    }
-    assert_eq!(rt; words.len(), 1_050_013);
-    assert!(rt;
-        matches!(&check(rt.alloc(), words.as_slice()), Ok(shape) if shape.entries.len() == 1)
-    );
+    assert!(rt; large_module_holds(rt.alloc()));
 }
