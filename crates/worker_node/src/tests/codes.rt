@@ -5,7 +5,6 @@ use super::frames::{
 use crate::Served;
 use foz_words::{Key, NoMemory};
 use std::alloc::Global;
-use std::test::Fail;
 
 /// The hash of the state that is judged.
 const HASH: u64 = 9;
@@ -227,48 +226,66 @@ fn load_model(alloc: Global, out: &mut Vec<u8>, hash: u64, model: u8) -> Result<
     put_module(alloc, out, LOAD, hash, 13, &varints)
 }
 
-/// Loads of what the judged states refer to: a sampler, a layout, a pass, and a module of each model under the number of its
-/// stage.
+/// Execution models, each with the number of its stage.
+const MODELS: &[(u8, u64)] = &[(0, 1), (1, 2), (2, 4), (3, 8), (4, 16), (5, 32)];
+
+/// Adds a module of each model, under the number of its stage.
+fn load_models(alloc: Global, out: &mut Vec<u8>) -> Result<(), NoMemory> {
+    for (model, stage) in MODELS {
+        load_model(alloc, out, *stage, *model)?;
+    }
+    Ok(())
+}
+
+/// Loads of what the judged states refer to: a sampler, a layout, a pass, and the modules.
 fn given(alloc: Global) -> Result<Vec<u8>, NoMemory> {
     let mut input = Vec::new(alloc);
     put_state(alloc, &mut input, LOAD, Key { tag: 1, hash: 1 }, "{}")?;
     put_state(alloc, &mut input, LOAD, LAYOUT, "{}")?;
     put_state(alloc, &mut input, LOAD, Key { tag: 5, hash: 5 }, PASS)?;
-    for (model, stage) in [(0, 1), (1, 2), (2, 4), (3, 8), (4, 16), (5, 32)] {
-        load_model(alloc, &mut input, stage, model)?;
-    }
+    load_models(alloc, &mut input)?;
     Ok(input)
 }
 
-#[test]
-fn each_state_is_answered_by_its_code(rt: HostRuntime) -> Result<(), Fail> {
-    let alloc = rt.alloc();
-    let mut input = given(alloc)?;
-    let mut wanted = Vec::from_slice(alloc, HELLO)?;
+/// What is sent in a session, and what has to be written.
+#[derive(Drop)]
+struct Script {
+    sent: Vec<u8>,
+    written: Vec<u8>,
+}
+
+/// A session in which this is sent first, and answered by a Hello alone.
+fn begun(alloc: Global, sent: Vec<u8>) -> Result<Script, NoMemory> {
+    let written = Vec::from_slice(alloc, HELLO)?;
+    Ok(Script { sent, written })
+}
+
+/// A state is sent, and this code is its answer.
+fn ask(
+    alloc: Global,
+    script: &mut Script,
+    tag: u32,
+    object: &str,
+    code: u32,
+) -> Result<(), NoMemory> {
+    let key = Key { tag, hash: HASH };
+    put_state(alloc, &mut script.sent, DO, key, object)?;
+    put_reply(&mut script.written, key, code)
+}
+
+fn ask_states(alloc: Global, script: &mut Script) -> Result<(), NoMemory> {
     for (code, tag, object) in STATES {
-        let key = Key {
-            tag: *tag,
-            hash: HASH,
-        };
-        put_state(alloc, &mut input, DO, key, *object)?;
-        put_reply(&mut wanted, key, *code)?;
+        ask(alloc, script, *tag, *object, *code)?;
     }
-    input.extend_from_slice(QUIT)?;
-    assert!(rt; comes_to(alloc, &input, pieces(1000), Served::Quit, &wanted)?);
     Ok(())
 }
 
-#[test]
-fn each_module_is_answered_by_its_code(rt: HostRuntime) -> Result<(), Fail> {
-    let alloc = rt.alloc();
-    let mut input = Vec::new(alloc);
-    let mut wanted = Vec::from_slice(alloc, HELLO)?;
+fn ask_modules(alloc: Global, script: &mut Script) -> Result<(), NoMemory> {
+    let key = Key { tag: 4, hash: HASH };
     for (code, words, varints) in MODULES {
-        put_module(alloc, &mut input, DO, HASH, *words, *varints)?;
-        put_reply(&mut wanted, Key { tag: 4, hash: HASH }, *code)?;
+        put_module(alloc, &mut script.sent, DO, HASH, *words, *varints)?;
+        put_reply(&mut script.written, key, *code)?;
     }
-    input.extend_from_slice(QUIT)?;
-    assert!(rt; comes_to(alloc, &input, pieces(1000), Served::Quit, &wanted)?);
     Ok(())
 }
 
@@ -279,18 +296,55 @@ fn graphics(alloc: Global, stages: &str, more: &str) -> Result<String, NoMemory>
     )?)
 }
 
-#[test]
-fn each_graphics_pipeline_is_answered_by_its_code(rt: HostRuntime) -> Result<(), Fail> {
-    let alloc = rt.alloc();
-    let mut input = given(alloc)?;
-    let mut wanted = Vec::from_slice(alloc, HELLO)?;
-    let key = Key { tag: 6, hash: HASH };
+fn ask_pipelines(alloc: Global, script: &mut Script) -> Result<(), NoMemory> {
     for (code, stages, more) in PIPELINES {
         let object = graphics(alloc, *stages, *more)?;
-        put_state(alloc, &mut input, DO, key, &object)?;
-        put_reply(&mut wanted, key, *code)?;
+        ask(alloc, script, 6, &object, *code)?;
     }
-    input.extend_from_slice(QUIT)?;
-    assert!(rt; comes_to(alloc, &input, pieces(1000), Served::Quit, &wanted)?);
     Ok(())
+}
+
+/// Whether the session goes so, once a Quit ends it.
+fn goes(alloc: Global, script: &mut Script) -> Result<bool, NoMemory> {
+    script.sent.extend_from_slice(QUIT)?;
+    Ok(comes_to(
+        alloc,
+        &script.sent,
+        pieces(1000),
+        Served::Quit,
+        &script.written,
+    ))
+}
+
+fn states_are_answered(alloc: Global) -> Result<bool, NoMemory> {
+    let mut script = begun(alloc, given(alloc)?)?;
+    ask_states(alloc, &mut script)?;
+    goes(alloc, &mut script)
+}
+
+#[test]
+fn each_state_is_answered_by_its_code(rt: HostRuntime) {
+    assert!(rt; states_are_answered(rt.alloc()) == Ok(true));
+}
+
+fn modules_are_answered(alloc: Global) -> Result<bool, NoMemory> {
+    let mut script = begun(alloc, Vec::new(alloc))?;
+    ask_modules(alloc, &mut script)?;
+    goes(alloc, &mut script)
+}
+
+#[test]
+fn each_module_is_answered_by_its_code(rt: HostRuntime) {
+    assert!(rt; modules_are_answered(rt.alloc()) == Ok(true));
+}
+
+fn pipelines_are_answered(alloc: Global) -> Result<bool, NoMemory> {
+    let mut script = begun(alloc, given(alloc)?)?;
+    ask_pipelines(alloc, &mut script)?;
+    goes(alloc, &mut script)
+}
+
+#[test]
+fn each_graphics_pipeline_is_answered_by_its_code(rt: HostRuntime) {
+    assert!(rt; pipelines_are_answered(rt.alloc()) == Ok(true));
 }

@@ -4,7 +4,6 @@ use disk_model::{MemSink, MemSource};
 use driver_check::CheckDriver;
 use foz_words::{Key, NoMemory, hex16, put_le32, put_le64};
 use std::alloc::Global;
-use std::test::Fail;
 
 pub const LOAD: u8 = 2;
 
@@ -21,7 +20,7 @@ pub const QUIT: &[u8] = b"\x01\0\0\0\x05";
 const MOST: usize = 10_000;
 
 /// Adds a Load or a Do.
-pub fn put_work(out: &mut Vec<u8>, kind: u8, key: Key, payload: &[u8]) -> Result<(), NoMemory> {
+fn put_work(out: &mut Vec<u8>, kind: u8, key: Key, payload: &[u8]) -> Result<(), NoMemory> {
     let size = payload.len().min(MOST) as u32;
     put_le32(out, 13 + size)?;
     out.push(kind)?;
@@ -98,6 +97,48 @@ pub fn put_module(
     put_work(out, kind, key, &payload)
 }
 
+/// What a crew sends.
+#[derive(Clone, Copy)]
+pub enum Sent {
+    /// A Load or a Do of a state that isn't a module, by its object.
+    State(u8, Key, &'static str),
+    /// A Load or a Do of a module under this hash, by the number of its words and these as varints.
+    Module(u8, u64, u32, &'static [u8]),
+    /// A Load or a Do with this payload.
+    Payload(u8, Key, &'static [u8]),
+    /// These bytes.
+    Bytes(&'static [u8]),
+}
+
+fn put_sent(alloc: Global, out: &mut Vec<u8>, sent: Sent) -> Result<(), NoMemory> {
+    match sent {
+        Sent::State(kind, key, object) => put_state(alloc, out, kind, key, object),
+        Sent::Module(kind, hash, words, varints) => {
+            put_module(alloc, out, kind, hash, words, varints)
+        }
+        Sent::Payload(kind, key, payload) => put_work(out, kind, key, payload),
+        Sent::Bytes(bytes) => Ok(out.extend_from_slice(bytes)?),
+    }
+}
+
+/// What a crew sends, as bytes.
+pub fn bytes_of(alloc: Global, sent: &[Sent]) -> Result<Vec<u8>, NoMemory> {
+    let mut bytes = Vec::new(alloc);
+    for part in sent {
+        put_sent(alloc, &mut bytes, *part)?;
+    }
+    Ok(bytes)
+}
+
+/// A Hello, and a Reply with each of these codes.
+pub fn replies(alloc: Global, table: &[(Key, u32)]) -> Result<Vec<u8>, NoMemory> {
+    let mut written = Vec::from_slice(alloc, HELLO)?;
+    for (key, code) in table {
+        put_reply(&mut written, *key, *code)?;
+    }
+    Ok(written)
+}
+
 /// How a source and a sink behave: how many bytes are given in a call, and the calls that fail.
 #[derive(Clone, Copy)]
 pub struct Calls<'a> {
@@ -115,20 +156,43 @@ pub fn pieces(step: usize) -> Calls<'static> {
     }
 }
 
-/// Whether the shipped driver's session over these bytes ends so, and writes this.
-pub fn comes_to(
-    alloc: Global,
-    input: &[u8],
-    calls: Calls,
-    end: Served,
-    written: &[u8],
-) -> Result<bool, Fail> {
+fn source_of(alloc: Global, input: &[u8], calls: Calls) -> Result<MemSource, NoMemory> {
     let mut bytes = Vec::from_slice(alloc, input)?;
     bytes.truncate(1_000_000);
     let reads = Vec::from_slice(alloc, calls.reads)?;
-    let mut source = MemSource::new(bytes, calls.step.max(1), reads);
-    let mut sink = MemSink::new(alloc, 10_000, 7, Vec::from_slice(alloc, calls.writes)?)?;
+    Ok(MemSource::new(bytes, calls.step.max(1), reads))
+}
+
+fn sink_of(alloc: Global, calls: Calls) -> Result<MemSink, NoMemory> {
+    let writes = Vec::from_slice(alloc, calls.writes)?;
+    Ok(MemSink::new(alloc, 10_000, 7, writes)?)
+}
+
+/// The shipped driver's session.
+fn session(alloc: Global, source: &mut MemSource, sink: &mut MemSink) -> Served {
     let mut driver = CheckDriver::new(alloc);
-    let ended = serve(alloc, &mut source, &mut sink, &mut driver);
-    Ok(ended == end && sink.written() == written)
+    serve(alloc, source, sink, &mut driver)
+}
+
+fn session_comes_to(
+    alloc: Global,
+    mut source: MemSource,
+    calls: Calls,
+    end: Served,
+    written: &[u8],
+) -> bool {
+    match sink_of(alloc, calls) {
+        Ok(mut sink) => {
+            session(alloc, &mut source, &mut sink) == end && sink.written() == written
+        }
+        Err(_) => false,
+    }
+}
+
+/// Whether the shipped driver's session over these bytes ends so, and writes this.
+pub fn comes_to(alloc: Global, input: &[u8], calls: Calls, end: Served, written: &[u8]) -> bool {
+    match source_of(alloc, input, calls) {
+        Ok(source) => session_comes_to(alloc, source, calls, end, written),
+        Err(_) => false,
+    }
 }

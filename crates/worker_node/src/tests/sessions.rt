@@ -1,16 +1,17 @@
-//! Sessions as a whole.
+//! Sessions as a whole, as tables of what is sent and what is answered.
 use super::frames::{
-    Calls, DO, HELLO, LAYOUT, LOAD, QUIT, comes_to, pieces, put_module, put_reply, put_state,
-    put_work,
+    Calls, DO, HELLO, LAYOUT, LOAD, QUIT, Sent, bytes_of, comes_to, pieces, replies,
 };
 use crate::Served;
 use foz_words::{Key, NoMemory};
 use std::alloc::Global;
-use std::test::Fail;
 
 const SAMPLER: Key = Key { tag: 1, hash: 1 };
 
 const PIPELINE: Key = Key { tag: 7, hash: 7 };
+
+/// A key with a tag that no kind has.
+const NO_KIND: Key = Key { tag: 8, hash: 1 };
 
 /// A Do of a layout without anything, as its bytes.
 const LAYOUT_FRAME: &[u8; 72] =
@@ -19,39 +20,6 @@ const LAYOUT_FRAME: &[u8; 72] =
 /// What is written where that is all: a Hello of 9 bytes and a Reply.
 const ANSWERED: &[u8; 30] =
     b"\x05\0\0\0\x01FOZ\x01\x11\0\0\0\x04\0\0\0\0\x03\0\0\0\x03\0\0\0\0\0\0\0";
-
-fn joined(alloc: Global, first: &[u8], second: &[u8]) -> Result<Vec<u8>, NoMemory> {
-    let mut bytes = Vec::from_slice(alloc, first)?;
-    bytes.extend_from_slice(second)?;
-    Ok(bytes)
-}
-
-/// A Hello, and a Reply with each of these codes.
-fn replies(alloc: Global, table: &[(Key, u32)]) -> Result<Vec<u8>, NoMemory> {
-    let mut written = Vec::from_slice(alloc, HELLO)?;
-    for (key, code) in table {
-        put_reply(&mut written, *key, *code)?;
-    }
-    Ok(written)
-}
-
-fn is_answered(
-    alloc: Global,
-    input: &[u8],
-    end: Served,
-    table: &[(Key, u32)],
-) -> Result<bool, Fail> {
-    let written = replies(alloc, table)?;
-    comes_to(alloc, input, pieces(100), end, &written)
-}
-
-#[test]
-fn a_state_is_created_and_answered(rt: HostRuntime) -> Result<(), Fail> {
-    let alloc = rt.alloc();
-    let input = joined(alloc, LAYOUT_FRAME, QUIT)?;
-    assert!(rt; comes_to(alloc, &input, pieces(100), Served::Quit, ANSWERED)?);
-    Ok(())
-}
 
 /// The words of the smallest compute module, as varints.
 const COMPUTE: &[u8] =
@@ -62,141 +30,165 @@ const COMPUTE: &[u8] =
 const COMPUTE_PIPELINE: &str =
     "{\"layout\":\"0000000000000003\",\"stage\":{\"module\":\"0000000000000004\",\"name\":\"main\",\"stage\":32}}";
 
-/// A module, and twice a pipeline, with its layout between.
-fn layout_comes_late(alloc: Global) -> Result<Vec<u8>, NoMemory> {
-    let mut input = Vec::new(alloc);
-    put_module(alloc, &mut input, LOAD, 4, 35, COMPUTE)?;
-    put_state(alloc, &mut input, DO, PIPELINE, COMPUTE_PIPELINE)?;
-    put_state(alloc, &mut input, DO, LAYOUT, "{}")?;
-    put_state(alloc, &mut input, DO, PIPELINE, COMPUTE_PIPELINE)?;
-    input.extend_from_slice(QUIT)?;
-    Ok(input)
+/// What is sent in a session, how that ends, and which code is answered to which key.
+struct Session {
+    name: &'static str,
+    sent: &'static [Sent],
+    end: Served,
+    codes: &'static [(Key, u32)],
 }
 
-#[test]
-fn a_pipeline_without_its_layout_is_refused(rt: HostRuntime) -> Result<(), Fail> {
-    let alloc = rt.alloc();
-    let input = layout_comes_late(alloc)?;
-    let wanted = [(PIPELINE, 41), (LAYOUT, 0), (PIPELINE, 0)];
-    assert!(rt; is_answered(alloc, &input, Served::Quit, &wanted)?);
-    Ok(())
-}
+const SESSIONS: &[Session] = &[
+    Session {
+        name: "a state is created and answered",
+        sent: &[Sent::Bytes(LAYOUT_FRAME), Sent::Bytes(QUIT)],
+        end: Served::Quit,
+        codes: &[(LAYOUT, 0)],
+    },
+    Session {
+        name: "a pipeline without its layout is refused, and created once that is there",
+        sent: &[
+            Sent::Module(LOAD, 4, 35, COMPUTE),
+            Sent::State(DO, PIPELINE, COMPUTE_PIPELINE),
+            Sent::State(DO, LAYOUT, "{}"),
+            Sent::State(DO, PIPELINE, COMPUTE_PIPELINE),
+            Sent::Bytes(QUIT),
+        ],
+        end: Served::Quit,
+        codes: &[(PIPELINE, 41), (LAYOUT, 0), (PIPELINE, 0)],
+    },
+    Session {
+        name: "after a Load that can't be read, or that is refused, the next Do alone is refused",
+        sent: &[
+            Sent::Payload(LOAD, SAMPLER, b"{}"),
+            Sent::State(DO, LAYOUT, "{}"),
+            Sent::State(DO, LAYOUT, "{}"),
+            Sent::State(LOAD, SAMPLER, "{\"magFilter\":2}"),
+            Sent::State(LOAD, SAMPLER, "{}"),
+            Sent::State(DO, LAYOUT, "{}"),
+            Sent::State(DO, LAYOUT, "{}"),
+            Sent::Bytes(QUIT),
+        ],
+        end: Served::Quit,
+        codes: &[(LAYOUT, 200), (LAYOUT, 0), (LAYOUT, 200), (LAYOUT, 0)],
+    },
+    Session {
+        name: "a Do that is no state is answered",
+        sent: &[
+            Sent::Payload(DO, SAMPLER, b"{}"),
+            Sent::Payload(DO, NO_KIND, b""),
+        ],
+        end: Served::InputEnded { left: 0 },
+        codes: &[(SAMPLER, 201), (NO_KIND, 201)],
+    },
+    Session {
+        name: "nothing after a Quit is read",
+        sent: &[
+            Sent::Bytes(LAYOUT_FRAME),
+            Sent::Payload(LOAD, SAMPLER, b"{}"),
+            Sent::State(DO, LAYOUT, "{}"),
+            Sent::Bytes(QUIT),
+            Sent::Bytes(b"after the end"),
+        ],
+        end: Served::Quit,
+        codes: &[(LAYOUT, 0), (LAYOUT, 200)],
+    },
+];
 
-/// Twice Loads that create nothing, and two Dos: a Load that can't be read, and one that the driver refuses, with one after it
-/// that the driver takes.
-fn loads_fail(alloc: Global) -> Result<Vec<u8>, NoMemory> {
-    let mut input = Vec::new(alloc);
-    put_work(&mut input, LOAD, SAMPLER, b"{}")?;
-    put_state(alloc, &mut input, DO, LAYOUT, "{}")?;
-    put_state(alloc, &mut input, DO, LAYOUT, "{}")?;
-    put_state(alloc, &mut input, LOAD, SAMPLER, "{\"magFilter\":2}")?;
-    put_state(alloc, &mut input, LOAD, SAMPLER, "{}")?;
-    put_state(alloc, &mut input, DO, LAYOUT, "{}")?;
-    put_state(alloc, &mut input, DO, LAYOUT, "{}")?;
-    input.extend_from_slice(QUIT)?;
-    Ok(input)
-}
-
-#[test]
-fn only_the_next_do_is_refused_after_a_failed_load(rt: HostRuntime) -> Result<(), Fail> {
-    let alloc = rt.alloc();
-    let input = loads_fail(alloc)?;
-    let wanted = [(LAYOUT, 200), (LAYOUT, 0), (LAYOUT, 200), (LAYOUT, 0)];
-    assert!(rt; is_answered(alloc, &input, Served::Quit, &wanted)?);
-    Ok(())
-}
-
-/// A key with a tag that no kind has.
-const NO_KIND: Key = Key { tag: 8, hash: 1 };
-
-fn no_states(alloc: Global) -> Result<Vec<u8>, NoMemory> {
-    let mut input = Vec::new(alloc);
-    put_work(&mut input, DO, SAMPLER, b"{}")?;
-    put_work(&mut input, DO, NO_KIND, b"")?;
-    Ok(input)
-}
-
-#[test]
-fn a_do_that_is_no_state_is_answered(rt: HostRuntime) -> Result<(), Fail> {
-    let alloc = rt.alloc();
-    let input = no_states(alloc)?;
-    let wanted = [(SAMPLER, 201), (NO_KIND, 201)];
-    assert!(rt; is_answered(alloc, &input, Served::InputEnded { left: 0 }, &wanted)?);
-    Ok(())
-}
-
-/// Two Dos with a failed Load between, a Quit, and more.
-fn goes_on_after_the_end(alloc: Global) -> Result<Vec<u8>, NoMemory> {
-    let mut input = Vec::from_slice(alloc, LAYOUT_FRAME)?;
-    put_work(&mut input, LOAD, SAMPLER, b"{}")?;
-    put_state(alloc, &mut input, DO, LAYOUT, "{}")?;
-    input.extend_from_slice(QUIT)?;
-    input.extend_from_slice(b"after the end")?;
-    Ok(input)
-}
-
-#[test]
-fn pieces_change_nothing(rt: HostRuntime) -> Result<(), Fail> {
-    let alloc = rt.alloc();
-    let input = goes_on_after_the_end(alloc)?;
-    let wanted = replies(alloc, &[(LAYOUT, 0), (LAYOUT, 200)])?;
-    for step in 1..100usize {
-        assert!(rt; comes_to(alloc, &input, pieces(step), Served::Quit, &wanted)?);
+/// However long the pieces are that the input comes in, up to a hundred bytes, the session comes to the same.
+fn in_pieces(alloc: Global, input: &[u8], end: Served, written: &[u8]) -> bool {
+    let mut same = true;
+    for step in 1..=100usize {
+        same = comes_to(alloc, input, pieces(step), end, written) && same;
     }
-    Ok(())
+    same
+}
+
+fn goes(alloc: Global, session: &Session) -> Result<bool, NoMemory> {
+    let input = bytes_of(alloc, session.sent)?;
+    let written = replies(alloc, session.codes)?;
+    Ok(in_pieces(alloc, &input, session.end, &written))
+}
+
+fn goes_as_told(alloc: Global, session: &Session) -> bool {
+    goes(alloc, session) == Ok(true)
 }
 
 #[test]
-fn an_input_that_ends_early_leaves_its_bytes(rt: HostRuntime) -> Result<(), Fail> {
+fn each_session_is_answered_whatever_the_pieces(rt: HostRuntime) {
+    for session in SESSIONS {
+        let name = session.name;
+        assert!(rt; goes_as_told(rt.alloc(), session), "{name}");
+    }
+}
+
+#[test]
+fn an_input_that_ends_early_leaves_its_bytes(rt: HostRuntime) {
     for cut in 0..72usize {
         let end = Served::InputEnded { left: cut };
-        assert!(rt; comes_to(rt.alloc(), &LAYOUT_FRAME[..cut], pieces(10), end, HELLO)?);
+        assert!(rt; comes_to(rt.alloc(), &LAYOUT_FRAME[..cut], pieces(10), end, HELLO));
     }
     let end = Served::InputEnded { left: 0 };
-    assert!(rt; comes_to(rt.alloc(), LAYOUT_FRAME, pieces(10), end, ANSWERED)?);
-    Ok(())
+    assert!(rt; comes_to(rt.alloc(), LAYOUT_FRAME, pieces(10), end, ANSWERED));
+}
+
+const BAD_FRAMES: &[(&[u8], u32)] = &[
+    (b"\x02\0\0\0", 0),
+    (b"\x01\0\0\0\x03", 4),
+    (b"\x05\0\0\0\x01FOZ\x01", 0),
+    (b"\x11\0\0\0\x04\0\0\0\0\x03\0\0\0\x03\0\0\0\0\0\0\0", 4),
+];
+
+fn after_a_frame(alloc: Global, bytes: &[u8]) -> Result<Vec<u8>, NoMemory> {
+    let mut input = Vec::from_slice(alloc, LAYOUT_FRAME)?;
+    input.extend_from_slice(bytes)?;
+    Ok(input)
+}
+
+/// Whether a bad frame after another one is placed there.
+fn is_placed_later(alloc: Global, bytes: &[u8], place: u32) -> bool {
+    let end = Served::BadFrame {
+        at: 72 + u64::from(place),
+    };
+    match after_a_frame(alloc, bytes) {
+        Ok(input) => comes_to(alloc, &input, pieces(50), end, ANSWERED),
+        Err(_) => false,
+    }
 }
 
 /// Whether a bad frame is placed there, alone and after another frame.
-fn is_placed(alloc: Global, bytes: &[u8], place: u32) -> Result<bool, Fail> {
+fn is_placed(alloc: Global, bytes: &[u8], place: u32) -> bool {
     let at = u64::from(place);
-    let alone = comes_to(alloc, bytes, pieces(3), Served::BadFrame { at }, HELLO)?;
-    let later = joined(alloc, LAYOUT_FRAME, bytes)?;
-    let end = Served::BadFrame { at: 72 + at };
-    Ok(alone && comes_to(alloc, &later, pieces(50), end, ANSWERED)?)
+    comes_to(alloc, bytes, pieces(3), Served::BadFrame { at }, HELLO)
+        && is_placed_later(alloc, bytes, place)
 }
 
 #[test]
-fn a_bad_frame_is_placed_from_the_first_byte(rt: HostRuntime) -> Result<(), Fail> {
-    let table: [(&[u8], u32); 4] = [
-        (b"\x02\0\0\0", 0),
-        (b"\x01\0\0\0\x03", 4),
-        (b"\x05\0\0\0\x01FOZ\x01", 0),
-        (b"\x11\0\0\0\x04\0\0\0\0\x03\0\0\0\x03\0\0\0\0\0\0\0", 4),
-    ];
-    for (bytes, place) in table.iter() {
-        assert!(rt; is_placed(rt.alloc(), *bytes, *place)?);
+fn a_bad_frame_is_placed_from_the_first_byte(rt: HostRuntime) {
+    for (bytes, place) in BAD_FRAMES {
+        assert!(rt; is_placed(rt.alloc(), *bytes, *place));
     }
-    Ok(())
 }
 
+/// The calls of the source and of the sink that fail, how the session ends, and how many bytes of the answer are written then. Two
+/// calls write a Hello, and three a Reply.
+const FAILED_CALLS: &[(&[u64], &[u64], Served, usize)] = &[
+    (&[0], &[], Served::ReadFault, 9),
+    (&[1], &[], Served::ReadFault, 30),
+    (&[], &[0], Served::WriteFault, 0),
+    (&[], &[1], Served::WriteFault, 7),
+    (&[], &[3], Served::WriteFault, 16),
+];
+
 #[test]
-fn a_failed_call_ends_the_session(rt: HostRuntime) -> Result<(), Fail> {
-    // Two calls write a Hello, and three a Reply.
-    let table: [(&[u64], &[u64], Served, &[u8]); 5] = [
-        (&[0], &[], Served::ReadFault, HELLO),
-        (&[1], &[], Served::ReadFault, ANSWERED),
-        (&[], &[0], Served::WriteFault, &[]),
-        (&[], &[1], Served::WriteFault, &ANSWERED[..7]),
-        (&[], &[3], Served::WriteFault, &ANSWERED[..16]),
-    ];
-    for (reads, writes, end, written) in table.iter() {
+fn a_failed_call_ends_the_session(rt: HostRuntime) {
+    for (reads, writes, end, written) in FAILED_CALLS {
         let calls = Calls {
             step: 1000,
             reads: *reads,
             writes: *writes,
         };
-        assert!(rt; comes_to(rt.alloc(), LAYOUT_FRAME, calls, *end, *written)?);
+        let written = &ANSWERED[..(*written).min(30)];
+        assert!(rt; comes_to(rt.alloc(), LAYOUT_FRAME, calls, *end, written));
     }
-    Ok(())
 }
