@@ -1,4 +1,4 @@
-//! The printed text.
+//! The printed text, as tables. Entries and graphs are made by functions of their own, and borrowed where they are told.
 use super::*;
 use dep_graph::{Class, Graph};
 use foz_entry::{Cut, Entry, EntryCause};
@@ -8,7 +8,6 @@ use json_fold::FieldCause;
 use replay_core::{Dep, Event, Plan, Verdict};
 use spirv_varint::VarintError;
 use std::alloc::Global;
-use std::process::Abort;
 use std::test::Fail;
 
 fn entry(alloc: Global, tag: u32, hash: u64) -> Entry {
@@ -48,41 +47,60 @@ fn told(
 }
 
 /// A layout, a module, and a pipeline that depends on both, by their tags.
-const TAGS: [u32; 3] = [3, 4, 7];
+const TAGS: &[u32] = &[3, 4, 7];
 
-fn pipeline_entries(alloc: Global) -> Result<Vec<Entry>, Fail> {
+fn pipeline_entries(alloc: Global) -> Result<Vec<Entry>, NoMemory> {
     let mut entries = Vec::new(alloc);
     for tag in TAGS {
-        entries.push(entry(alloc, tag, u64::from(tag)))?;
+        entries.push(entry(alloc, *tag, u64::from(*tag)))?;
     }
     Ok(entries)
 }
 
-fn pipeline_plan(alloc: Global) -> Result<Plan, Fail> {
+fn deps_of(alloc: Global, tag: u32) -> Result<Row<Dep>, NoMemory> {
+    let deps: &[Dep] = if tag == 7 {
+        &[Dep::Item(1), Dep::Item(0)]
+    } else {
+        &[]
+    };
+    Ok(Row::from_vec(Vec::from_slice(alloc, deps)?))
+}
+
+fn pipeline_plan(alloc: Global) -> Result<Plan, NoMemory> {
     let mut deps = Row::new(alloc);
     for tag in TAGS {
-        let below: &[Dep] = if tag == 7 {
-            &[Dep::Item(1), Dep::Item(0)]
-        } else {
-            &[]
-        };
-        deps.push(Row::from_vec(Vec::from_slice(alloc, below)?))?;
+        deps.push(deps_of(alloc, *tag)?)?;
     }
     Ok(Plan { deps })
 }
 
-fn pipeline_graph(alloc: Global) -> Result<Graph, Fail> {
+fn pipeline_classes(alloc: Global) -> Result<Row<Class>, NoMemory> {
     let mut classes = Row::new(alloc);
     for number in 0..3 {
         classes.push(Class::Item { number })?;
     }
-    let items = Row::from_vec(Vec::from_slice(alloc, &[0, 1, 2])?);
+    Ok(classes)
+}
+
+fn pipeline_graph(alloc: Global) -> Result<Graph, NoMemory> {
     let plan = pipeline_plan(alloc)?;
+    let items = Row::from_vec(Vec::from_slice(alloc, &[0, 1, 2])?);
+    let classes = pipeline_classes(alloc)?;
     Ok(Graph {
         plan,
         items,
         classes,
     })
+}
+
+fn told_of_pipeline(
+    alloc: Global,
+    entries: &[Entry],
+    verdicts: &[Option<Verdict>],
+    events: &[Event],
+) -> Result<(String, Overall), Fail> {
+    let graph = pipeline_graph(alloc)?;
+    told(alloc, entries, &graph, verdicts, events)
 }
 
 /// What is told of the replay of a pipeline.
@@ -92,66 +110,132 @@ fn pipeline_told(
     events: &[Event],
 ) -> Result<(String, Overall), Fail> {
     let entries = pipeline_entries(alloc)?;
-    let graph = pipeline_graph(alloc)?;
-    told(alloc, &entries, &graph, verdicts, events)
+    told_of_pipeline(alloc, &entries, verdicts, events)
 }
+
+const VERDICTS_OF_PIPELINE: &[Option<Verdict>] = &[
+    Some(Verdict::Done(0)),
+    Some(Verdict::Blamed),
+    Some(Verdict::Missing(0)),
+];
+
+const EVENTS_OF_PIPELINE: &[Event] = &[
+    Event::Start { slot: 0, item: 0 },
+    Event::Reply {
+        slot: 0,
+        item: 0,
+        code: 0,
+    },
+    Event::Start { slot: 0, item: 1 },
+    Event::Death { slot: 0 },
+    Event::Restart { slot: 0 },
+    Event::Miss { item: 2, place: 0 },
+];
+
+const TEXT_OF_PIPELINE: &str = "before\n\
+    0 3 0000000000000003 done\n\
+    1 4 0000000000000004 blamed\n\
+    2 7 0000000000000007 missing 4 0000000000000004\n\
+    items 3 done 1 refused 0 blamed 1 missing 1 unanswered 0\n\
+    deaths 1 restarts 1 retired 0\n";
 
 #[test]
 fn a_blamed_module_is_missing_above(rt: HostRuntime) -> Result<(), Fail> {
-    let verdicts = [
-        Some(Verdict::Done(0)),
-        Some(Verdict::Blamed),
-        Some(Verdict::Missing(0)),
-    ];
-    let events = [
-        Event::Start { slot: 0, item: 0 },
-        Event::Reply {
-            slot: 0,
-            item: 0,
-            code: 0,
-        },
-        Event::Start { slot: 0, item: 1 },
-        Event::Death { slot: 0 },
-        Event::Restart { slot: 0 },
-        Event::Miss { item: 2, place: 0 },
-    ];
-    let (text, went) = pipeline_told(rt.alloc(), &verdicts, &events)?;
-    assert_eq!(rt; went, Overall::Flawed);
-    assert_eq!(rt;
-        text.as_str(),
-        "before\n\
-         0 3 0000000000000003 done\n\
-         1 4 0000000000000004 blamed\n\
-         2 7 0000000000000007 missing 4 0000000000000004\n\
-         items 3 done 1 refused 0 blamed 1 missing 1 unanswered 0\n\
-         deaths 1 restarts 1 retired 0\n"
-    );
+    let (text, went) = pipeline_told(rt.alloc(), VERDICTS_OF_PIPELINE, EVENTS_OF_PIPELINE)?;
+    assert_eq!(rt; (text.as_str(), went), (TEXT_OF_PIPELINE, Overall::Flawed));
     Ok(())
 }
 
-/// The graph of one entry of this class, which depends on a key that no item has.
-fn graph_of_one(alloc: Global, class: Class) -> Result<Graph, Fail> {
-    let classes = one(alloc, class)?;
+/// Why a payload can't be read.
+#[derive(Clone, Copy)]
+enum Cause {
+    NoZeroByte,
+    Float(usize),
+    BadJson,
+    NoSuchState,
+    CodeSize(u32),
+    /// Its offset, its size, and how many bytes there are.
+    Window(u32, u32, usize),
+    Varint(VarintError),
+    /// The member at this path.
+    Field(&'static str, FieldCause),
+}
+
+/// The class of an entry.
+#[derive(Clone, Copy)]
+enum Given {
+    Item,
+    Kept,
+    Duplicate,
+    Damaged(EntryCause),
+    Unreadable(Cause),
+}
+
+fn unreadable(alloc: Global, cause: Cause) -> Result<Unreadable, NoMemory> {
+    match cause {
+        Cause::NoZeroByte => Ok(Unreadable::NoZeroByte),
+        Cause::Float(at) => Ok(Unreadable::Float { at }),
+        Cause::BadJson => Ok(Unreadable::BadJson),
+        Cause::NoSuchState => Ok(Unreadable::NoSuchState),
+        Cause::CodeSize(stated) => Ok(Unreadable::CodeSize { stated }),
+        Cause::Window(offset, size, have) => Ok(Unreadable::Window { offset, size, have }),
+        Cause::Varint(cause) => Ok(Unreadable::Varint(cause)),
+        Cause::Field(path, cause) => field(alloc, path, cause),
+    }
+}
+
+/// A member that can't be read, by its path.
+fn field(alloc: Global, path: &str, cause: FieldCause) -> Result<Unreadable, NoMemory> {
+    let path = Name::from_string(String::from_str(alloc, path)?);
+    Ok(Unreadable::Field(path, cause))
+}
+
+fn class_of(alloc: Global, given: Given) -> Result<Class, NoMemory> {
+    match given {
+        Given::Item => Ok(Class::Item { number: 0 }),
+        Given::Kept => Ok(Class::Kept),
+        Given::Duplicate => Ok(Class::Duplicate { first: 0 }),
+        Given::Damaged(cause) => Ok(Class::Damaged(cause)),
+        Given::Unreadable(cause) => Ok(Class::Unreadable(unreadable(alloc, cause)?)),
+    }
+}
+
+/// The plan of one item, which depends on a key that no item has.
+fn plan_of_one(alloc: Global) -> Result<Plan, NoMemory> {
     let below = one(alloc, Dep::Absent(Key { tag: 3, hash: 9 }))?;
-    let plan = Plan {
+    Ok(Plan {
         deps: one(alloc, below)?,
-    };
+    })
+}
+
+fn graph_of_one(alloc: Global, given: Given) -> Result<Graph, NoMemory> {
+    let plan = plan_of_one(alloc)?;
+    let items = one(alloc, 0)?;
+    let classes = one(alloc, class_of(alloc, given)?)?;
     Ok(Graph {
         plan,
-        items: one(alloc, 0)?,
+        items,
         classes,
     })
+}
+
+fn told_of_one(
+    alloc: Global,
+    graph: &Graph,
+    verdicts: &[Option<Verdict>],
+) -> Result<(String, Overall), Fail> {
+    let entries = [entry(alloc, 7, 0xAB)];
+    told(alloc, &entries, graph, verdicts, &[])
 }
 
 /// What is told of the replay of one entry of this class.
 fn one_told(
     alloc: Global,
-    class: Class,
+    given: Given,
     verdicts: &[Option<Verdict>],
 ) -> Result<(String, Overall), Fail> {
-    let graph = graph_of_one(alloc, class)?;
-    let entries = [entry(alloc, 7, 0xAB)];
-    told(alloc, &entries, &graph, verdicts, &[])
+    let graph = graph_of_one(alloc, given)?;
+    told_of_one(alloc, &graph, verdicts)
 }
 
 /// The text says these words of its one entry.
@@ -165,58 +249,64 @@ fn says(text: &str, words: &str) -> bool {
     }
 }
 
-/// Of an entry of this class whose item has these verdicts, these words are told, and its replay went so.
+/// Of an entry of this class whose graph has these verdicts, these words are told, and its replay went so.
 fn is_told(
-    rt: &impl Abort,
     alloc: Global,
-    class: Class,
+    given: Given,
     verdicts: &[Option<Verdict>],
     words: &str,
     overall: Overall,
-) -> Result<(), Fail> {
-    let (text, went) = one_told(alloc, class, verdicts)?;
-    assert!(rt; says(&text, words));
-    assert_eq!(rt; went, overall);
-    Ok(())
+) -> Result<bool, Fail> {
+    let (text, went) = one_told(alloc, given, verdicts)?;
+    Ok(says(&text, words) && went == overall)
 }
 
-const VERDICTS: [(Option<Verdict>, &str, Overall); 5] = [
-    (Some(Verdict::Done(0)), "done", Overall::Flawless),
-    (Some(Verdict::Done(41)), "refused 41", Overall::Flawed),
-    (Some(Verdict::Blamed), "blamed", Overall::Flawed),
+/// The class of an entry, the verdicts of its graph, what is told of it, and how its replay went.
+const VERDICTS: &[(Given, &[Option<Verdict>], &str, Overall)] = &[
     (
-        Some(Verdict::Missing(0)),
+        Given::Item,
+        &[Some(Verdict::Done(0))],
+        "done",
+        Overall::Flawless,
+    ),
+    (
+        Given::Item,
+        &[Some(Verdict::Done(41))],
+        "refused 41",
+        Overall::Flawed,
+    ),
+    (
+        Given::Item,
+        &[Some(Verdict::Blamed)],
+        "blamed",
+        Overall::Flawed,
+    ),
+    (
+        Given::Item,
+        &[Some(Verdict::Missing(0))],
         "missing 3 0000000000000009",
         Overall::Flawed,
     ),
-    (None, "unanswered", Overall::Unanswered),
+    (Given::Item, &[None], "unanswered", Overall::Unanswered),
+    (Given::Kept, &[], "kept", Overall::Flawless),
+    (Given::Duplicate, &[], "duplicate", Overall::Flawed),
 ];
 
 #[test]
 fn each_verdict_has_its_words(rt: HostRuntime) -> Result<(), Fail> {
-    for (verdict, words, overall) in VERDICTS {
-        is_told(
-            &rt,
-            rt.alloc(),
-            Class::Item { number: 0 },
-            &[verdict],
-            words,
-            overall,
-        )?;
+    for (given, verdicts, words, overall) in VERDICTS {
+        let as_told = is_told(rt.alloc(), *given, *verdicts, *words, *overall)?;
+        assert!(rt; as_told, "{words}");
     }
-    is_told(&rt, rt.alloc(), Class::Kept, &[], "kept", Overall::Flawless)?;
-    let duplicate = Class::Duplicate { first: 0 };
-    is_told(
-        &rt,
-        rt.alloc(),
-        duplicate,
-        &[],
-        "duplicate",
-        Overall::Flawed,
-    )
+    Ok(())
 }
 
-const DAMAGES: [(EntryCause, &str); 5] = [
+/// Of an entry of this class, which is no item, these words are told, and its replay is flawed.
+fn is_flawed(alloc: Global, given: Given, words: &str) -> Result<bool, Fail> {
+    is_told(alloc, given, &[], words, Overall::Flawed)
+}
+
+const DAMAGES: &[(EntryCause, &str)] = &[
     (EntryCause::Deflate, "deflate"),
     (EntryCause::BadFormat { n: 3 }, "format 3"),
     (EntryCause::TooLarge { size: 16_777_217 }, "too large"),
@@ -233,126 +323,82 @@ const DAMAGES: [(EntryCause, &str); 5] = [
 #[test]
 fn each_damage_has_its_words(rt: HostRuntime) -> Result<(), Fail> {
     for (cause, words) in DAMAGES {
-        is_told(
-            &rt,
-            rt.alloc(),
-            Class::Damaged(cause),
-            &[],
-            words,
-            Overall::Flawed,
-        )?;
+        let as_told = is_flawed(rt.alloc(), Given::Damaged(*cause), *words)?;
+        assert!(rt; as_told, "{words}");
     }
     Ok(())
 }
 
-/// Of an entry whose payload can't be read for this cause, these words are told.
-fn unreadable_is_told(
-    rt: &impl Abort,
-    alloc: Global,
-    cause: Unreadable,
-    words: &str,
-) -> Result<(), Fail> {
-    is_told(
-        rt,
-        alloc,
-        Class::Unreadable(cause),
-        &[],
-        words,
-        Overall::Flawed,
-    )
-}
-
-#[test]
-fn each_cause_has_its_words(rt: HostRuntime) -> Result<(), Fail> {
-    unreadable_is_told(&rt, rt.alloc(), Unreadable::NoZeroByte, "unreadable zero")?;
-    unreadable_is_told(
-        &rt,
-        rt.alloc(),
-        Unreadable::Float { at: 17 },
-        "unreadable float 17",
-    )?;
-    unreadable_is_told(&rt, rt.alloc(), Unreadable::BadJson, "unreadable json")?;
-    unreadable_is_told(&rt, rt.alloc(), Unreadable::NoSuchState, "unreadable state")?;
-    unreadable_is_told(
-        &rt,
-        rt.alloc(),
-        Unreadable::CodeSize { stated: 6 },
-        "unreadable code 6",
-    )?;
-    let window = Unreadable::Window {
-        offset: 1,
-        size: 64,
-        have: 64,
-    };
-    unreadable_is_told(&rt, rt.alloc(), window, "unreadable window 1 64 64")
-}
-
-const VARINTS: [(VarintError, &str); 3] = [
-    (VarintError::Short { at: 4 }, "unreadable varint short 4"),
-    (VarintError::TooLarge { at: 4 }, "unreadable varint large 4"),
-    (VarintError::Extra { at: 4 }, "unreadable varint extra 4"),
-];
-
-#[test]
-fn each_cause_of_varints_has_its_words(rt: HostRuntime) -> Result<(), Fail> {
-    for (cause, words) in VARINTS {
-        unreadable_is_told(&rt, rt.alloc(), Unreadable::Varint(cause), words)?;
-    }
-    Ok(())
-}
-
-/// A member that can't be read, by its path.
-fn field(alloc: Global, path: &str, cause: FieldCause) -> Result<Unreadable, NoMemory> {
-    let path = Name::from_string(String::from_str(alloc, path)?);
-    Ok(Unreadable::Field(path, cause))
-}
-
-const FIELDS: [(&str, FieldCause, &str); 11] = [
+const CAUSES: &[(Cause, &str)] = &[
+    (Cause::NoZeroByte, "unreadable zero"),
+    (Cause::Float(17), "unreadable float 17"),
+    (Cause::BadJson, "unreadable json"),
+    (Cause::NoSuchState, "unreadable state"),
+    (Cause::CodeSize(6), "unreadable code 6"),
+    (Cause::Window(1, 64, 64), "unreadable window 1 64 64"),
     (
-        "stage.name",
-        FieldCause::NotText,
+        Cause::Varint(VarintError::Short { at: 4 }),
+        "unreadable varint short 4",
+    ),
+    (
+        Cause::Varint(VarintError::TooLarge { at: 4 }),
+        "unreadable varint large 4",
+    ),
+    (
+        Cause::Varint(VarintError::Extra { at: 4 }),
+        "unreadable varint extra 4",
+    ),
+    (
+        Cause::Field("stage.name", FieldCause::NotText),
         "unreadable field stage.name text",
     ),
     (
-        "flags",
-        FieldCause::HasPNext,
+        Cause::Field("flags", FieldCause::HasPNext),
         "unreadable field flags pnext",
     ),
     (
-        "flags",
-        FieldCause::NotNumber,
+        Cause::Field("flags", FieldCause::NotNumber),
         "unreadable field flags number",
     ),
     (
-        "flags",
-        FieldCause::TooLarge,
+        Cause::Field("flags", FieldCause::TooLarge),
         "unreadable field flags large",
     ),
-    ("flags", FieldCause::NotUnit, "unreadable field flags unit"),
-    ("flags", FieldCause::NotText, "unreadable field flags text"),
-    ("flags", FieldCause::NotList, "unreadable field flags list"),
     (
-        "flags",
-        FieldCause::NotObject,
+        Cause::Field("flags", FieldCause::NotUnit),
+        "unreadable field flags unit",
+    ),
+    (
+        Cause::Field("flags", FieldCause::NotText),
+        "unreadable field flags text",
+    ),
+    (
+        Cause::Field("flags", FieldCause::NotList),
+        "unreadable field flags list",
+    ),
+    (
+        Cause::Field("flags", FieldCause::NotObject),
         "unreadable field flags object",
     ),
     (
-        "flags",
-        FieldCause::BadLength,
+        Cause::Field("flags", FieldCause::BadLength),
         "unreadable field flags length",
     ),
-    ("flags", FieldCause::BadHash, "unreadable field flags hash"),
     (
-        "flags",
-        FieldCause::BadBase64,
+        Cause::Field("flags", FieldCause::BadHash),
+        "unreadable field flags hash",
+    ),
+    (
+        Cause::Field("flags", FieldCause::BadBase64),
         "unreadable field flags base64",
     ),
 ];
 
 #[test]
-fn each_cause_of_a_field_has_its_word(rt: HostRuntime) -> Result<(), Fail> {
-    for (path, cause, words) in FIELDS {
-        unreadable_is_told(&rt, rt.alloc(), field(rt.alloc(), path, cause)?, words)?;
+fn each_cause_has_its_words(rt: HostRuntime) -> Result<(), Fail> {
+    for (cause, words) in CAUSES {
+        let as_told = is_flawed(rt.alloc(), Given::Unreadable(*cause), *words)?;
+        assert!(rt; as_told, "{words}");
     }
     Ok(())
 }
