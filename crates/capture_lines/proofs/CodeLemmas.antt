@@ -23,11 +23,11 @@ code_words-le32 : (w : ℕ) (bytes : List ℕ) → w < 2 ^ 32 → code_words (le
 unfolding code_words le32
 code_words-le32 w bytes fits = ap (λ (n : ℕ). with_word n (code_words bytes)) (from_le_bytes-to_le_bytes_4 w fits)
 
--- the word at the front is read
+-- the word at the beginning is read
 pub first_read : (bytes : List ℕ) (w : ℕ) → w < 2 ^ 32 → bytes ≡ le32 w ++ drop 4 bytes → code_words bytes ≡ with_word w (code_words (drop 4 bytes))
 first_read bytes w fits is = ap code_words is ∙ code_words-le32 w (drop 4 bytes) fits
 
--- one word more stands in front
+-- one word more stands first
 pub word_read : (words rest more : List ℕ) (w : ℕ) (found : Option (List ℕ)) → code_words rest ≡ with_word w (code_words more) → in_front words (code_words rest) ≡ found → in_front (words ++ w ∷ []) (code_words more) ≡ found
 word_read words rest more w found is before = one_more words w (code_words more) ∙ ap (in_front words) (sym is) ∙ before
 

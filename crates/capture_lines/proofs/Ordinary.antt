@@ -27,7 +27,7 @@ use Rattle.capture_lines.specs.declared.kind.LineKind.TheVariants.{Object, Shade
 use Rattle.capture_lines.proofs.CutLemmas.{is_cut, cut_at, is_blank}
 use Rattle.std.specs.Prelude.{position}
 
--- ---- the text behind the blank
+-- ---- the text after the blank
 
 abbrev behind_of : Option (List ℕ × List ℕ) → List ℕ
 behind_of None = []

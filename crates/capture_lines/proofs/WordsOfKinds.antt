@@ -1,4 +1,4 @@
--- The line of a kind is cut behind its word.
+-- The line of a kind is cut after its word.
 use Rattle.std.proofs.Common.{◌≡◌, ℕ, List, ◌∷◌, ◌++◌, Some, false, refl}
 use Rattle.state_json.specs.declared.kind.JsonKind.TheVariants.{Sampler, SetLayout, PipelineLayout, RenderPass, Graphics, Compute}
 use Rattle.capture_lines.specs.declared.kind.LineKind.{LineKind}

@@ -30,6 +30,6 @@ line_text s = word_of (kind_of_state s) ++ 32 ∷ compact_text (line_object s)
 unfoldable pub line_of : State → List ℕ
 line_of s = line_text s ++ 10 ∷ []
 
--- something may stand behind
+-- something may stand after
 abbrev pub Extends : List ℕ → List ℕ → Type 0
 Extends old new = (more : List ℕ) × (new ≡ old ++ more)

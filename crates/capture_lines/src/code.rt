@@ -22,7 +22,7 @@ pub(crate) fn words_of_bytes(alloc: Global, bytes: &[u8]) -> Result<Option<Row<u
     }
 }
 
-/// The first word, and the bytes behind it. It is `None` exactly where fewer than four bytes stand.
+/// The first word, and the bytes after it. It is `None` exactly where fewer than four bytes stand.
 fn first_word(bytes: &[u8]) -> Option<(u32, &[u8])>
     ensures found { IfSome result (λ p. code_words bytes.now ≡ with_word p.0 (code_words p.1.now)) }
     ensures shorter { IfSome result (λ p. length p.1.now < length bytes.now) }

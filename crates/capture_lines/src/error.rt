@@ -11,7 +11,7 @@ use state_json::ParseError;
 pub enum LineError {
     /// The line doesn't begin with a kind word and one blank.
     Kind,
-    /// The first number that is written as a float and is neither `0.0` nor `1.0` begins at this place, in bytes behind
+    /// The first number that is written as a float and is neither `0.0` nor `1.0` begins at this place, in bytes after
     /// the blank.
     Float { at: usize },
     /// What follows the blank is no JSON.

@@ -20,7 +20,7 @@ pub struct Checked {
 }
 
 /// Replays the items of an archive's entries, of which there are at most 1,048,576: each is given to the driver once what it
-/// stands on succeeded.
+/// depends on succeeded.
 pub fn check_entries<R: Driver>(
     alloc: Global,
     entries: &[Entry],

@@ -1,4 +1,4 @@
--- The items of an archive, and what each of them stands on.
+-- The items of an archive, and what each of them depends on.
 use Rattle.std.specs.Prelude.{◌≡◌, ℕ, List, length, map, position, slice_get, Option, Some, None}
 use Rattle.std.specs.List.{items_where_true, range_with_len}
 use Rattle.foz_words.specs.Key.{is_key}

@@ -18,7 +18,7 @@ use std::alloc::Global;
 /// The dependency graph of an archive's entries.
 #[derive(Debug, Drop)]
 pub struct Graph {
-    /// What each item stands on.
+    /// What each item depends on.
     pub plan: Plan,
     /// The place of each item among the entries.
     pub items: Row<u32>,
@@ -44,7 +44,7 @@ pub fn plan_of(alloc: Global, entries: &[Entry]) -> Result<Graph, NoMemory>
     })
 }
 
-/// What each item stands on.
+/// What each item depends on.
 fn all_deps(alloc: Global, survey: &Survey) -> Result<Row<Row<Dep>>, NoMemory>
     ensures { (entries : List Entry) → IsIndexOf (get ⟦<Key as PartialEq>⟧.eq survey.now.index) entries → IfOk result (λ deps. deps ≡ map (deps_held entries survey.now.classes) survey.now.refs) }
 {

@@ -139,7 +139,7 @@ impl Survey {
         }
     }
 
-    /// What an item with this key in its payload stands on.
+    /// What an item with this key in its payload depends on.
     fn dep_on(&self, key: Key) -> Dep
         ensures { (entries : List Entry) → IsIndexOf (get ⟦<Key as PartialEq>⟧.eq self.now.index) entries → result ≡ dep_held entries self.now.classes key }
     {
@@ -152,7 +152,7 @@ impl Survey {
         }
     }
 
-    /// What an item with these keys in its payload stands on, in their order.
+    /// What an item with these keys in its payload depends on, in their order.
     pub fn deps_on(&self, alloc: Global, keys: &[Key]) -> Result<Row<Dep>, NoMemory>
         ensures { (entries : List Entry) → IsIndexOf (get ⟦<Key as PartialEq>⟧.eq self.now.index) entries → IfOk result (λ deps. deps ≡ map (dep_held entries self.now.classes) keys.now) }
     {

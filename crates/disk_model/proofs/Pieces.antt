@@ -2,7 +2,7 @@
 use Rattle.std.proofs.Common.{◌≡◌, ℕ, List, [], ◌++◌, length, take, drop, refl, sym, ap, ◌∙◌, append_assoc, append-nil}
 use Rattle.std.proofs.lemmas.List.{take-append-drop, take_at, nil_from_length}
 
--- the front of a text is written, and the rest is still to be
+-- the beginning of a text is written, and the rest is still to be
 pub record IsWrittenUpTo (old new text rest : List ℕ) : Type 0 where
   pub front : List ℕ
   pub parts : text ≡ front ++ rest
@@ -19,7 +19,7 @@ written_more old new next text rest after n so_far wrote left = record {
   written = wrote ∙ ap (λ (xs : List ℕ). xs ++ take n rest) so_far.written ∙ append_assoc old so_far.front (take n rest);
 }
 
--- what is written so far is a front of the text
+-- what is written so far is a prefix of the text
 pub written_front : (old new text rest : List ℕ) → IsWrittenUpTo old new text rest → (n : ℕ) × (new ≡ old ++ take n text)
 written_front old new text rest so_far =
     let front : take (length so_far.front) text ≡ so_far.front = ap (take (length so_far.front)) so_far.parts ∙ take_at so_far.front rest (length so_far.front) refl in

@@ -15,7 +15,7 @@ pub trait Sink {
     /// How often it has failed.
     ghost faults: { Self → ℕ };
 
-    /// Takes some bytes from the front of a piece, at least one where there is one, and answers how many.
+    /// Takes some bytes from the beginning of a piece, at least one where there is one, and answers how many.
     fn write(&mut self, piece: &[u8]) -> Result<usize, Failed>
         ensures bound { IfOk result (λ n. n ≤ length piece.now) }
         ensures progress { IfOk result (λ n. 0 < length piece.now → 0 < n) }
@@ -24,7 +24,7 @@ pub trait Sink {
         ensures cause { HasCause (faults self.old) (faults self.new) result };
 }
 
-/// Writes a whole text. Where the sink fails, a front of it is written.
+/// Writes a whole text. Where the sink fails, a prefix of it is written.
 pub fn write_all<O: Sink>(sink: &mut O, text: &[u8]) -> Result<(), Failed>
     ensures whole { O.tells → OnOk result (O.written sink.new ≡ O.written sink.old ++ text.now) }
     ensures cut_short { O.tells → OnErr result ((count : ℕ) × (O.written sink.new ≡ O.written sink.old ++ take count text.now)) }

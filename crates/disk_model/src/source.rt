@@ -18,7 +18,7 @@ pub trait Source {
     /// How often it has failed.
     ghost faults: { Self → ℕ };
 
-    /// Puts the next bytes into the front of a buffer and answers how many. Where the buffer isn't empty, 0 is the end.
+    /// Puts the next bytes into the beginning of a buffer and answers how many. Where the buffer isn't empty, 0 is the end.
     fn read(&mut self, buf: &mut [u8]) -> Result<usize, Failed>
         ensures given { IfOk result (λ n. n ≤ length buf.old) }
         ensures bytes { tells → IfOk result (λ n. left self.old ≡ take n buf.new ++ left self.new) }

@@ -19,7 +19,7 @@ pub trait Driver {
     ghost creates: { Meaning → Key → State → ℕ → Meaning → Type 0 };
 
     /// Creates the object of a state, and answers its code, which is 0 where that succeeds. The key names it in states
-    /// that refer to it. Want of memory changes nothing.
+    /// that refer to it. Running out of memory changes nothing.
     fn create(&mut self, alloc: Global, key: Key, state: State) -> Result<u32, NoMemory>
         requires { key.tag ≡ tag_of state }
         ensures created { IfOk result (λ code. creates (meaning self.old) key state code (meaning self.new)) }

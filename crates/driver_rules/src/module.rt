@@ -32,7 +32,7 @@ pub fn judge_module(alloc: Global, words: &[u32]) -> Result<Judged, NoMemory>
     }
 }
 
-/// The code of a fault. Want of memory has none.
+/// The code of a fault. Running out of memory has none.
 fn fault_code(fault: SpirvError) -> Result<u32, NoMemory>
     ensures { MatchResult result (λ code. (code ≡ fault_code fault) × (fault ≢ Memory)) (λ _. fault ≡ Memory) }
 {

@@ -1,4 +1,4 @@
--- Pieces stand in the bytes, one behind the other.
+-- Pieces stand in the bytes, one after the other.
 use Rattle.std.proofs.Common.{ℕ, zero, suc, ◌≡◌, ◌+◌, ◌-◌, ◌<◌, ◌≤◌, min, Bool, true, false, ◌||◌, cond, eqb, List, [], ◌∷◌, ◌++◌, length, get_or, take, drop, Option, Some, None, inl, inr, refl, ap, sym, ◌∙◌, length-append, arith}
 use Rattle.std.proofs.lemmas.Bool.{cases_lt}
 use Rattle.std.proofs.lemmas.List.{take_at, take_all, drop_more, drop_all, drop-drop, length-drop, get_or-drop, take-append-drop}
@@ -6,7 +6,7 @@ use Rattle.std.specs.List.{take_while, prefix_len, slice_range}
 use Rattle.memchr.specs.Find.{IsFirstByte, Nowhere, Passes, is_byte2}
 use Rattle.float_fold.specs.Pieces.{begins_number, goes_on_number, text_rest, piece_rest, pieces_behind, pieces}
 
--- the beginning of some bytes, and what stands behind it
+-- the beginning of some bytes, and what stands after it
 pub record Begins (front bytes : List ℕ) : Type 0 where
   pub behind : List ℕ
   pub whole : bytes ≡ front ++ behind
@@ -133,7 +133,7 @@ module _ (bytes : List ℕ) (mark : ℕ) (w : Walked bytes mark) (lt : mark < le
   unfolding text_rest
   escaped_byte more = rw (drop_more bytes (mark + 1) 0 more) (ap (λ n. suc (length (text_rest false (drop n bytes)))) (omega arith))
 
-  -- behind the byte behind a backslash, where there is one
+  -- after the byte after a backslash, where there is one
   pub walked_escaped : eqb (get_or bytes mark 0) 34 ≡ false → eqb (get_or bytes mark 0) 92 ≡ true → Walked bytes (min (length bytes) (mark + 2))
   walked_escaped other backslash = elim (cases_lt (mark + 1) (length bytes)) [
     | inl more ↦
@@ -147,6 +147,6 @@ module _ (bytes : List ℕ) (mark : ℕ) (w : Walked bytes mark) (lt : mark < le
         rw place (record { within = omega arith; same = omega (arith, at_backslash other backslash, over true, over false) })
   ]
 
--- what stands behind a place, as a part
+-- what stands after a place, as a part
 pub slice_behind : (bytes : List ℕ) (at : ℕ) → slice_range bytes at (length bytes) ≡ drop at bytes
 slice_behind bytes at = take_all (length bytes - at) (drop at bytes) (omega (arith, length-drop at bytes))

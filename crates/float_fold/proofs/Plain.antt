@@ -11,12 +11,12 @@ use Rattle.float_fold.proofs.Pieces.{pieces-cons}
 pub record IsPlain (bytes : List ℕ) : Type 0 where
   pub plain : has_float_token bytes ≡ false
 
--- a number token in front of the bytes ends there
+-- a number token before the bytes ends there
 unfoldable pub stops : List ℕ → Bool
 stops [] = true
 stops (byte ∷ bytes) = cond (goes_on_number byte) false true
 
--- ---- one piece in front
+-- ---- one piece first
 
 pub none_plain : IsPlain []
 unfolding has_float_token pieces_behind

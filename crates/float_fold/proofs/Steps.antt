@@ -7,7 +7,7 @@ use Rattle.float_fold.specs.Pieces.{piece_rest, pieces_behind, pieces}
 use Rattle.float_fold.specs.Folding.{folded, folded_at, folded_piece, first_then, then_folded}
 use Rattle.float_fold.proofs.Pieces.{length-piece_rest, take-piece_rest, pieces-cons}
 
--- the folding of what stands behind a place
+-- the folding of what stands after a place
 abbrev pub folded_from : List ℕ → ℕ → Result (List ℕ) ℕ
 folded_from text at = folded_at at (pieces (drop at text))
 
@@ -15,7 +15,7 @@ folded_from text at = folded_at at (pieces (drop at text))
 abbrev pub end_of : List ℕ → ℕ → ℕ
 end_of text at = at + 1 + length (piece_rest (get_or text at 0) (drop (at + 1) text))
 
--- the same, from what stands behind the first byte as a part of the text
+-- the same, from what stands after the first byte as a part of the text
 pub is_end : (text : List ℕ) (at rest : ℕ) → rest ≡ length (piece_rest (get_or text at 0) (slice_range text (at + 1) (length text))) → at + 1 + rest ≡ end_of text at
 is_end text at rest e =
     let whole : slice_range text (at + 1) (length text) ≡ drop (at + 1) text = take_all (length text - (at + 1)) (drop (at + 1) text) (omega (arith, length-drop (at + 1) text)) in

@@ -4,7 +4,7 @@ use Rattle.std.specs.Char.{is_ascii_digit}
 use Rattle.std.specs.List.{take_while}
 use Rattle.std.proofs.Common.{zero, suc}
 
--- a text behind its opening quote: up to the next quote that no backslash escapes, or to the end where there is none
+-- a text after its opening quote: up to the next quote that no backslash escapes, or to the end where there is none
 unfoldable pub text_rest : Bool → List ℕ → List ℕ
 text_rest escaped [] = []
 text_rest true (byte ∷ bytes) = byte ∷ text_rest false bytes

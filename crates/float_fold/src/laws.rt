@@ -7,7 +7,7 @@ ghost use Rattle.float_fold.specs.Folding.{Answers, folded, has_float_token};
 ghost use Rattle.float_fold.specs.declared.error.FoldError.{FoldError};
 ghost use Rattle.float_fold.specs.declared.error.FoldError.TheVariants.{Memory};
 
-/// A text has one answer, besides want of memory. Its pieces are the text. A folded text is never longer than the text,
+/// A text has one answer, besides running out of memory. Its pieces are the text. A folded text is never longer than the text,
 /// and no number token of it has `.`, `e` or `E`; a text of which no number token has these is its own folding.
 pub fn folding_keeps()
     ensures alone { (text : List ℕ) (answer other : Result (List ℕ) FoldError) → answer ≢ Err Memory → other ≢ Err Memory → Answers text answer → Answers text other → answer ≡ other }

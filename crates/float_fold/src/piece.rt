@@ -48,7 +48,7 @@ fn rest_of_text(bytes: &[u8]) -> usize
         if bytes[mark] == b'"' {
             return mark + 1;
         }
-        // The byte behind a backslash is passed over, where there is one.
+        // The byte after a backslash is passed over, where there is one.
         at = bytes.len().min(mark + 2);
     }
     bytes.len()

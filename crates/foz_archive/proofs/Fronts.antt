@@ -67,7 +67,7 @@ module _ (file front : List ℕ) (is : take 16 file ≡ front) where
 pub header_stays : (versions file other : List ℕ) → take 16 other ≡ take 16 file → HasHeader versions file → HasHeader versions other
 header_stays versions file other same has = header_of_front other (take 16 file) same versions (header_of_file file (take 16 file) refl versions has)
 
--- a front is what the whole file begins with
+-- a prefix is what the whole file begins with
 pub front_of : (file : List ℕ) (n : ℕ) → n ≡ min (length file) 16 → take 16 file ≡ take n file
 front_of file n is = sym (take_min 16 file) ∙ ap (λ (k : ℕ). take k file) (omega (arith, is))
 

@@ -75,7 +75,7 @@ module _ (versions content : List ℕ) (entries : List Entry) (end : ℕ) (reads
       let le = from_header in
       header_stays versions content bytes (sym (take-take 16 end bytes le) ∙ ap (take 16) same ∙ take-take 16 end content le) reads.begins
 
-  -- the same entries stand in each file with the same front and no whole entry after it
+  -- the same entries stand in each file with the same prefix and no whole entry after it
   pub same_front : (bytes : List ℕ) → take end bytes ≡ take end content → BeginsWithNone (drop end bytes) → Reads versions bytes entries end
   unfolding front
   same_front bytes same none =

@@ -30,7 +30,7 @@ spelled bytes head payload rest whole =
       };
     }
 
--- more behind a whole entry keeps it
+-- more after a whole entry keeps it
 whole_more : (bytes more : List ℕ) (head : Cut) (payload rest : List ℕ) → IsWhole bytes head payload rest → IsWhole (bytes ++ more) head payload (rest ++ more)
 whole_more bytes more head payload rest whole =
     let it = spelled bytes head payload rest whole in
@@ -57,7 +57,7 @@ row_of place bytes (entry ∷ entries) end rest row =
           (row.0, (others.spelling ++ other, whole, others.before other));
     }
 
--- one row behind another
+-- one row after another
 pub rows_join : (place mid end : ℕ) (bytes rest last : List ℕ) (first second : List Entry) → InRow place bytes first mid rest → InRow mid rest second end last → InRow place bytes (first ++ second) end last
 rows_join place mid end bytes rest last [] second row more =
     subst (λ (p : ℕ). InRow p bytes second end last) (sym row.0) (subst (λ (l : List ℕ). InRow mid l second end last) (sym row.1) more)

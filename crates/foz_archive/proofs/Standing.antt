@@ -22,7 +22,7 @@ goes_on from bytes before place next rest after entry so_far at whole step = λ 
 pub goes_on_none : (from : ℕ) (bytes : List ℕ) (before : List Entry) (place : ℕ) (rest : List ℕ) → GoesOn from bytes before place rest → BeginsWithNone rest → Stand from bytes before place
 goes_on_none from bytes before place rest so_far none = subst (λ (es : List Entry). Stand from bytes es place) (append-nil before) (so_far [] place (refl, none))
 
--- more than so many stand there, where so many were read and one more stands at the front
+-- more than so many stand there, where so many were read and one more stands at the beginning
 pub goes_on_more : (from : ℕ) (bytes : List ℕ) (before : List Entry) (place count end : ℕ) (rest : List ℕ) → GoesOn from bytes before place rest → length before ≡ count
     → (head : Cut) (payload after : List ℕ) → IsWhole rest head payload after → (entries : List Entry) → Stand place rest entries end
     → (all : List Entry) × Stand from bytes all end × (count < length all)

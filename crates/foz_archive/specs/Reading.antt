@@ -38,7 +38,7 @@ pub record HasHeader (versions file : List ℕ) : Type 0 where
   pub has_magic : HasMagic file
   pub known : is_one_of versions (slice_index file 15) ≡ true
 
--- no whole entry stands at the front
+-- no whole entry stands at the beginning
 abbrev pub BeginsWithNone : List ℕ → Type 0
 BeginsWithNone bytes = (head : Cut) (payload rest : List ℕ) → IsWhole bytes head payload rest → ⊥
 

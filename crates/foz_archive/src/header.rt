@@ -34,8 +34,8 @@ fn first_bytes(bytes: &[u8]) -> [u8; 16]
     first
 }
 
-/// Why a file of this length that begins with this front is refused for its header, if it is, where these versions are
-/// accepted. The front is the whole header, or the whole file where that is shorter.
+/// Why a file of this length that begins with this prefix is refused for its header, if it is, where these versions are
+/// accepted. The prefix is the whole header, or the whole file where that is shorter.
 pub(crate) fn header_refusal(versions: &[u8], len: usize, front: &[u8]) -> Option<ArchiveError>
     ensures refused { IfSome result (λ error. (file : List ℕ) → length file ≡ len → take header_len file ≡ front.now → IsRefusedAs versions.now file error) }
     ensures good { IfNone result (HasHeader versions.now front.now) }

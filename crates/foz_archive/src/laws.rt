@@ -11,7 +11,7 @@ ghost use Rattle.foz_archive.specs.Reading.{IsAcceptedAs, IsReadingAs, Holds};
 ghost use Rattle.foz_archive.specs.Refusal.{IsRefusedAs};
 
 /// A file has at most one reading or at most one reason why it is refused, and never both. So what `scan` answers is
-/// all that it may answer, but for want of memory.
+/// all that it may answer, but for running out of memory.
 pub fn readings_are_unique()
     ensures one_reading { (versions file : List ℕ) (first second : Scanned) → IsReadingAs versions file first → IsReadingAs versions file second → first ≡ second }
     ensures one_refusal { (versions file : List ℕ) (first second : ArchiveError) → IsRefusedAs versions file first → IsRefusedAs versions file second → first ≡ second }

@@ -46,7 +46,7 @@ pub fn fits(end: u64, need: u64) -> bool
 }
 
 impl<D: Disk> Archive<D> {
-    /// Is there room for an entry with a payload of so many bytes? An `Err` is never want of memory.
+    /// Is there room for an entry with a payload of so many bytes? An `Err` is never running out of memory.
     pub fn check_room(&self, size: usize) -> Result<(), PushError>
         ensures room { OnOk result (HasRoom self.now.end (length self.now.entries) size) }
         ensures refused { IfErr result (λ error. HasNoRoom self.now.end (length self.now.entries) size error) }

@@ -4,7 +4,7 @@ ghost use Rattle.std.specs.Char.{is_ascii_digit};
 ghost use Rattle.std.specs.List.{list_all};
 ghost use Rattle.foz_args.specs.Command.{is_number, number_upto};
 
-/// Is the word one to twenty decimal digits? (std would read a number behind a plus sign too.)
+/// Is the word one to twenty decimal digits? (std would read a number after a plus sign too.)
 fn is_number(word: &str) -> bool
     ensures { result ≡ is_number word.now }
 {

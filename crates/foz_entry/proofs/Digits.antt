@@ -7,7 +7,7 @@ pub AllDigits-append : (radix : ℕ) (xs ys : List ℕ) → AllDigits radix xs �
 AllDigits-append radix [] ys p q = q
 AllDigits-append radix (x ∷ xs) ys p q = (p.0, AllDigits-append radix xs ys p.1 q)
 
--- a text is of digits where its front and the rest are
+-- a text is of digits where its beginning and the rest are
 pub AllDigits-parts : (radix n : ℕ) (ds : List ℕ) → AllDigits radix (take n ds) → AllDigits radix (drop n ds) → AllDigits radix ds
 AllDigits-parts radix n ds p q = subst (AllDigits radix) (take-append-drop n ds) (AllDigits-append radix (take n ds) (drop n ds) p q)
 

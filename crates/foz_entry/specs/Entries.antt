@@ -11,7 +11,7 @@ use Rattle.foz_entry.specs.Spelling.{head_of}
 unfoldable pub is_undamaged : Entry → Bool
 is_undamaged entry = is_none (damage entry.head entry.payload)
 
--- where entries in a row behind a header end
+-- where entries in a row after a header end
 unfoldable pub end_of : List Entry → ℕ
 end_of entries = header_len + sum_by (λ entry. head_len + length entry.payload) entries
 

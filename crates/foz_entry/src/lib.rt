@@ -1,4 +1,4 @@
-//! Entries of an archive: where one stands whole at the front of some bytes, and whether it is undamaged.
+//! Entries of an archive: where one stands whole at the beginning of some bytes, and whether it is undamaged.
 #![tactic(auto)]
 
 mod cut;

@@ -96,7 +96,7 @@ unfoldable pub head_of : ℕ → List ℕ → Result (Plains module_head) Unread
 head_of hash payload =
     or_no_zero (has_zero payload) then λ _. head_in hash (json_part payload)
 
--- the bytes of the varints, which stand behind the zero byte
+-- the bytes of the varints, which stand after the zero byte
 abbrev pub window_at : ℕ → ℕ → List ℕ → Result (List ℕ) Unreadable
 window_at offset size bytes =
     if nat_le (offset + size) (length bytes) then Ok (take size (drop offset bytes)) else Err (Window offset size (length bytes))

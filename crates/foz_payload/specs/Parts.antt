@@ -1,4 +1,4 @@
--- The parts of a payload: JSON, and behind the first zero byte the varints of a shader module.
+-- The parts of a payload: JSON, and after the first zero byte the varints of a shader module.
 use Rattle.std.specs.Prelude.{ℕ, ◌+◌, ◌==◌, List, length, drop, Bool, not}
 use Rattle.std.specs.List.{take_while, list_any}
 

@@ -44,7 +44,7 @@ abbrev pub IsPlain : State → Type 0
 IsPlain (ShaderModule m) = ⊥
 IsPlain state = ⊤
 
--- what stands behind the JSON: for a shader module a zero byte and its words as varints
+-- what stands after the JSON: for a shader module a zero byte and its words as varints
 abbrev pub tail_of : State → List ℕ
 tail_of (ShaderModule m) = 0 ∷ spelling m.code
 tail_of state = []

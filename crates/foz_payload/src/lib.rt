@@ -1,4 +1,4 @@
-//! The payloads of states: JSON, and for a shader module its words as varints behind a zero byte.
+//! The payloads of states: JSON, and for a shader module its words as varints after a zero byte.
 #![tactic(auto)]
 
 mod kinds;

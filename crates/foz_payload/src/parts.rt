@@ -19,7 +19,7 @@ pub(crate) fn json_part(payload: &[u8]) -> &[u8]
     }
 }
 
-/// The JSON and what stands behind the first zero byte. It is `None` exactly where there is no zero byte.
+/// The JSON and what stands after the first zero byte. It is `None` exactly where there is no zero byte.
 pub(crate) fn parts(payload: &[u8]) -> Option<(&[u8], &[u8])>
     ensures some { IfSome result (λ parts. (has_zero payload.now ≡ true) × (parts.0.now ≡ json_part payload.now) × (parts.1.now ≡ behind_zero payload.now)) }
     ensures none { IfNone result (has_zero payload.now ≡ false) }

@@ -97,7 +97,7 @@ fn head_in(alloc: Global, hash: u64, json: &[u8]) -> Result<ModuleHead, Unreadab
     }
 }
 
-/// The bytes of a module's varints, of those behind the zero byte.
+/// The bytes of a module's varints, of those after the zero byte.
 #[tactic(auto, unfolding(crate::specs::Meaning::window_of))]
 fn window_of<'p>(head: &ModuleHead, behind: &'p [u8]) -> Result<&'p [u8], Unreadable>
     ensures { Finds (λ window. window.now) result (window_of head.now.code_size head.now.varint_offset head.now.varint_size behind.now) }

@@ -22,7 +22,7 @@ pub enum Unreadable {
     Field(Name, FieldCause),
     /// The size of a module's code, in bytes, isn't divisible by 4, or is above 64 MiB.
     CodeSize { stated: u32 },
-    /// The varints would end behind the payload, which has this many bytes after its zero byte.
+    /// The varints would end after the payload, which has this many bytes after its zero byte.
     Window { offset: u32, size: u32, have: usize },
     /// The varints aren't the words of the module.
     Varint(VarintError),

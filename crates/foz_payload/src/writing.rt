@@ -68,7 +68,7 @@ fn varints_of(alloc: Global, words: &[u32]) -> Result<Row<u8>, NoMemory>
     encode(alloc, words)
 }
 
-/// Appends what stands behind the JSON of a shader module.
+/// Appends what stands after the JSON of a shader module.
 fn put_varints(bytes: &mut Row<u8>, varints: &[u8]) -> Result<(), NoMemory>
     ensures { OnOk result (bytes.new ≡ bytes.old ++ 0 ∷ varints.now) }
 {

@@ -4,7 +4,7 @@ use Rattle.capture_lines.specs.Line.{line_meaning}
 use Rattle.input_lines.specs.Lines.{lines_of}
 use Rattle.foz_text.specs.HashText.{hash_line, hash_lines, hash_text, is_read, are_read, is_readable}
 
--- so much is written, and behind this number of lines the rest is still to be
+-- so much is written, and after this number of lines the rest is still to be
 pub record IsHashedUpTo (capture start written : List ℕ) (readable : Bool) (number : ℕ) (rest : List ℕ) : Type 0 where
   pub text : written ++ hash_lines (suc number) (lines_of rest) ≡ start ++ hash_text capture
   pub reads : (readable && are_read (lines_of rest)) ≡ is_readable capture

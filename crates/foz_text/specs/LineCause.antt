@@ -4,7 +4,7 @@ use Rattle.report_words.specs.Words.{field_word}
 use Rattle.capture_lines.specs.declared.error.LineError.{LineError}
 use Rattle.capture_lines.specs.declared.error.LineError.TheVariants.{Kind, Float, Json, Field, Code, Memory}
 
--- No line is refused for want of memory, so that has no words.
+-- No line is refused for running out of memory, so that has no words.
 unfoldable pub line_cause_text : LineError → List ℕ
 line_cause_text Kind = codes "kind"
 line_cause_text (Float at) = codes "float " ++ decimal at

@@ -20,7 +20,7 @@ take_fits count bytes fits i = elim (cases_lt i count) [
   | inr le ↦ rw (get_or_past (take count bytes) i 0 (omega (arith, length-take count bytes))) (omega arith)
 ]
 
--- the bytes at the front spell the number that is read there
+-- the bytes at the beginning spell the number that is read there
 pub le32_of_front : (bytes : List ℕ) (n : ℕ) → 4 ≤ length bytes → ((i : ℕ) → get_or bytes i 0 < 256) → n ≡ from_le_bytes w32 bytes → bytes ≡ le32 n ++ drop 4 bytes
 unfolding le32
 le32_of_front bytes n long fits is =
@@ -52,7 +52,7 @@ le64-injective : (m n : ℕ) → m < 2 ^ 64 → n < 2 ^ 64 → le64 m ≡ le64 n
 unfolding le64
 le64-injective m n p q e = sym (from_le_bytes-to_le_bytes_8 m p) ∙ ap (from_le_bytes w64) e ∙ from_le_bytes-to_le_bytes_8 n q
 
--- two numbers that are spelled at one front are one, and so is what follows
+-- two numbers that the same bytes begin with are one, and so is what follows
 pub le32-append-injective : (m n : ℕ) (xs ys : List ℕ) → m < 2 ^ 32 → n < 2 ^ 32 → le32 m ++ xs ≡ le32 n ++ ys → (m ≡ n) × (xs ≡ ys)
 le32-append-injective m n xs ys p q e =
     let front : le32 m ≡ le32 n = sym (take_at (le32 m) xs 4 (length-le32 m)) ∙ ap (take 4) e ∙ take_at (le32 n) ys 4 (length-le32 n) in

@@ -4,7 +4,7 @@ use Rattle.std.specs.Char.{digit_char, digit_value}
 use Rattle.std.specs.List.{list_all}
 use Rattle.std.specs.Str.Parse.{digits_value}
 
--- a number in so many lower-case hexadecimal digits, with zeros in front
+-- a number in so many lower-case hexadecimal digits, with leading zeros
 unfoldable pub hex_text : ℕ → ℕ → List ℕ
 hex_text zero n = []
 hex_text (suc count) n = hex_text count (n / 16) ++ digit_char (n % 16) ∷ []

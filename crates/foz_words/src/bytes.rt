@@ -3,7 +3,7 @@ ghost use Rattle.foz_words.specs.Bytes.{le32, le64};
 
 use crate::memory::NoMemory;
 
-/// The 32-bit number whose four bytes, low byte first, stand at the front. It is `None` exactly where fewer bytes stand.
+/// The 32-bit number whose four bytes, low byte first, stand at the beginning. It is `None` exactly where fewer bytes stand.
 pub fn get_le32(bytes: &[u8]) -> Option<u32>
     ensures found { IfSome result (λ n. bytes.now ≡ le32 n ++ drop 4 bytes.now) }
     ensures none { IsNone result ↔ (length bytes.now < 4) }
@@ -14,7 +14,7 @@ pub fn get_le32(bytes: &[u8]) -> Option<u32>
     }
 }
 
-/// The 64-bit number whose eight bytes, low byte first, stand at the front. It is `None` exactly where fewer bytes stand.
+/// The 64-bit number whose eight bytes, low byte first, stand at the beginning. It is `None` exactly where fewer bytes stand.
 pub fn get_le64(bytes: &[u8]) -> Option<u64>
     ensures found { IfSome result (λ n. bytes.now ≡ le64 n ++ drop 8 bytes.now) }
     ensures none { IsNone result ↔ (length bytes.now < 8) }

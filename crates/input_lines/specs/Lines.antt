@@ -1,7 +1,7 @@
 -- The lines of an input. Each ends with a line feed, which the last may lack.
 use Rattle.std.specs.Prelude.{ℕ, List, [], ◌∷◌, ◌==◌, if◌then◌else◌}
 
--- the lines, with this byte in front of the first
+-- the lines, with this byte before the first
 abbrev pub in_front : ℕ → List (List ℕ) → List (List ℕ)
 in_front byte [] = (byte ∷ []) ∷ []
 in_front byte (line ∷ lines) = (byte ∷ line) ∷ lines

@@ -15,7 +15,7 @@ use Rattle.record_dedup.specs.declared.ack.RecordError.TheVariants.{Broken, TooL
 use Rattle.record_dedup.specs.declared.ack.FlushError.{FlushError}
 use Rattle.record_dedup.specs.declared.ack.FlushError.TheVariants as flush_errors
 
--- the recorder's reply that an answer tells, which want of memory doesn't
+-- the recorder's reply that an answer tells, which running out of memory doesn't
 abbrev pub reply_told : Result Ack RecordError → Option RecordReply
 reply_told (Ok (New i)) = Some (reply.New i)
 reply_told (Ok (Known i)) = Some (reply.Known i)

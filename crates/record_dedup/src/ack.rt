@@ -80,7 +80,7 @@ impl From<DiskFault> for FlushError {
     }
 }
 
-/// The reply that an answer to `record` tells, which want of memory doesn't.
+/// The reply that an answer to `record` tells, which running out of memory doesn't.
 pub fn reply_told(answer: &Result<Ack, RecordError>) -> Option<RecordReply>
     ensures { result ≡ reply_told answer.now }
 {

@@ -128,7 +128,7 @@ impl<D: Disk> Book<D> {
     }
 
     /// Records a payload under a key, if none is recorded there yet. The entry waits for the next flush, and the disk
-    /// isn't called. Want of memory changes nothing, and comes only in place of a new entry.
+    /// isn't called. Running out of memory changes nothing, and comes only in place of a new entry.
     pub fn record(&mut self, key: Key, payload: &[u8]) -> Result<Ack, RecordError>
         ensures step { IsStep (recorder_of self.old) key payload.now (reply_told result) (recorder_of self.new) }
         ensures memory { result ≡ Err RecordError.Memory → record_reply (recorder_of self.old) key payload.now ≡ New (length self.old.entries) }
@@ -168,7 +168,7 @@ impl<D: Disk> Book<D> {
         }
     }
 
-    /// Adds the entry of a key that no entry holds, for which there is room. Want of memory changes nothing.
+    /// Adds the entry of a key that no entry holds, for which there is room. Running out of memory changes nothing.
     fn add(&mut self, key: Key, payload: &[u8]) -> Result<Ack, NoMemory>
         requires whole { self.old.broken ≡ false }
         requires free { holder key self.old.entries ≡ None }

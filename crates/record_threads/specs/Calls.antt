@@ -14,7 +14,7 @@ use Rattle.record_threads.specs.declared.recorder.Receipt.{Receipt}
 abbrev pub seat_of : FullNote → ℕ
 seat_of n = n.note.seat
 
--- the reply that an answer tells, which want of memory doesn't
+-- the reply that an answer tells, which running out of memory doesn't
 abbrev pub reply_received : Result Receipt RecordError → Option RecordReply
 reply_received (Ok receipt) = reply_told (Ok receipt.ack)
 reply_received (Err error) = reply_told (Err error)

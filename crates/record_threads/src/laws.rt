@@ -25,7 +25,7 @@ pub fn ties_tell_the_payload()
 {}
 
 /// What a thread knows of its seat: which calls that record it has made. A new seat has made none. A call adds itself, and
-/// a flush, a refusal for want of memory and the notes of others add nothing. A seat that was joined has in the whole story
+/// a flush, a refusal for running out of memory and the notes of others add nothing. A seat that was joined has in the whole story
 /// the calls that it had in what it had seen.
 pub fn seats_have_their_calls<D>()
     ensures none { (origin : RecorderState) (story : List FullNote) (number : ℕ) → notes_of seat_of number story ≡ [] → HasCalls origin story number [] }

@@ -89,7 +89,7 @@ impl<D: Disk + Drop> Recorder<D> {
         self.desk.join(root, other);
     }
 
-    /// Records in a turn of its own, which is one note of the story. Want of memory leaves no note.
+    /// Records in a turn of its own, which is one note of the story. Running out of memory leaves no note.
     pub fn record<R: Wait>(
         &self,
         rt: &R,
@@ -121,7 +121,7 @@ impl<D: Disk + Drop> Recorder<D> {
         }
     }
 
-    /// Flushes in a turn of its own, which is one note of the story. Want of memory leaves no note.
+    /// Flushes in a turn of its own, which is one note of the story. Running out of memory leaves no note.
     pub fn flush<R: Wait>(&self, rt: &R, seat: &mut RecordSeat<D>) -> Result<u32, FlushError>
         requires seat { IsSeatAt self.now seat.old }
         requires outside { IsOutside seat.old }

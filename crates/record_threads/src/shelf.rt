@@ -79,7 +79,7 @@ impl<D: Disk> Shelf<D> {
         self.notes.len()
     }
 
-    /// Records a payload under a key, and notes the call. Want of memory changes nothing.
+    /// Records a payload under a key, and notes the call. Running out of memory changes nothing.
     pub(crate) fn record(&mut self, seat: u32, key: Key, payload: &[u8]) -> Result<Ack, RecordError>
         ensures origin { self.new.origin ≡ self.old.origin }
         ensures told { MatchOption (reply_told result) (self.new ≡ self.old) (λ reply. IsNoted self.old seat (IsRecordNote key payload.now reply) self.new) }
@@ -105,7 +105,7 @@ impl<D: Disk> Shelf<D> {
         answer
     }
 
-    /// Flushes the book, and notes the call. Want of memory changes nothing.
+    /// Flushes the book, and notes the call. Running out of memory changes nothing.
     pub(crate) fn flush(&mut self, seat: u32) -> Result<u32, FlushError>
         ensures origin { self.new.origin ≡ self.old.origin }
         ensures told { MatchOption (flush_told result) (self.new ≡ self.old) (λ reply. IsNoted self.old seat (IsFlushNote reply) self.new) }
@@ -130,7 +130,7 @@ impl<D: Disk> Shelf<D> {
     }
 }
 
-/// The reply that an answer to `flush` tells, which want of memory doesn't.
+/// The reply that an answer to `flush` tells, which running out of memory doesn't.
 fn flush_told(answer: &Result<u32, FlushError>) -> Option<RecordReply>
     ensures { result ≡ flush_told answer.now }
 {

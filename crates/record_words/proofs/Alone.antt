@@ -42,7 +42,7 @@ module _ {Cause : Type 0} where
     once_later i other (zero, h) = absurd (other (let e = h.0 in cc))
     once_later i other (suc k, h) = (k, (h.0, λ j at. let e = h.1 (suc j) at in omega arith))
 
-    -- the lines behind the first, from the entries that it leaves
+    -- the lines after the first, from the entries that it leaves
     rest_are : (more added : List Entry) → later ≡ more ++ added → length before ≤ length more → ((i : ℕ) → length more ≤ i → answer ≡ replied (New i) i → ⊥)
         → ((k : ℕ) (reply : RecordReply) (n : ℕ) → At answers k (replied reply n) → length more ≤ n) → AreAnswers more lines 1 later answers
     rest_are more added grown longer other above = record {

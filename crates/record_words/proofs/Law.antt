@@ -96,7 +96,7 @@ module _ {Cause : Type 0} (origin : RecorderState) (story : List FullNote) (line
   the_note : (p : ℕ) (key : Key) (payload : List ℕ) (n : FullNote) → Records (leads origin (take p story)) key payload n → n.note.reply ≡ the_reply key payload p
   the_note p key payload n r = r.reply ∙ ap (λ (b : Bool). if b then Broken else reply_of (entries_at p) key payload) (unbroken p)
 
-  -- the entries behind a new note
+  -- the entries after a new note
   entries_next : (p : ℕ) (key : Key) (payload : List ℕ) (i : ℕ) (n : FullNote) → At story p n → Records (leads origin (take p story)) key payload n → the_reply key payload p ≡ New i
       → entries_at (suc p) ≡ entries_at p ++ entry_of (end_of (entries_at p)) key payload ∷ []
   entries_next p key payload i n at r e =
@@ -111,7 +111,7 @@ module _ {Cause : Type 0} (origin : RecorderState) (story : List FullNote) (line
   cut_rises : (p q : ℕ) → p ≤ q → the_cut p ≤ the_cut q
   cut_rises p q h = let m = leads_later origin story p q h in let l = ap length m.1 in let a = length-append (entries_at p) m.0 in omega arith
 
-  -- behind a new note the cut is greater
+  -- after a new note the cut is greater
   cut_above : (p q : ℕ) (key : Key) (payload : List ℕ) (i : ℕ) (n : FullNote) → At story p n → Records (leads origin (take p story)) key payload n → the_reply key payload p ≡ New i → p < q → the_cut p < the_cut q
   cut_above p q key payload i n at r e h =
       let next = ap length (entries_next p key payload i n at r e) in

@@ -46,7 +46,7 @@ leads_whole s story p =
     let g = leads_grows (leads s (take p story)) more.0 in
     (g.0, ap (λ (z : List FullNote). (leads s z).entries) more.1 ∙ (ap (λ (z : RecorderState). z.entries) (leads_append s (take p story) more.0) ∙ g.1))
 
--- the state behind a note
+-- the state after a note
 pub leads_next : (s : RecorderState) (story : List FullNote) (p : ℕ) (n : FullNote) → At story p n → leads s (take (suc p) story) ≡ after_note (leads s (take p story)) n
 leads_next s story p n at = ap (leads s) (take_next story p n at) ∙ leads_append s (take p story) (n ∷ [])
 
@@ -94,7 +94,7 @@ module _ (s : RecorderState) (n : FullNote) (ns : List FullNote) (i : ℕ) (furt
   added_first Flush DiskFault c r = added_same (ap (λ (z : RecordCall). (after s z n.note.reply n.payload).entries) c ∙ ap (λ (z : RecordReply). (after s Flush z n.payload).entries) r)
   added_first Flush reply c r = added_same (ap (λ (z : RecordCall). (after s z n.note.reply n.payload).entries) c ∙ ap (λ (z : RecordReply). (after s Flush z n.payload).entries) r)
 
--- an entry behind the first ones was added by a note
+-- an entry after the first ones was added by a note
 pub added_by : (s : RecorderState) (story : List FullNote) (i : ℕ) → length s.entries ≤ i → i < length (leads s story).entries → (place : ℕ) × Adds s story i place
 added_by s [] i low high = absurd (omega arith)
 added_by s (n ∷ ns) i low high = added_first s n ns i (λ h. added_by (after_note s n) ns i h high) low n.note.call n.note.reply refl refl

@@ -1,4 +1,4 @@
--- Recording the lines one by one makes a record of one thread, and a front of them can be recorded first.
+-- Recording the lines one by one makes a record of one thread, and a prefix of them can be recorded first.
 use Rattle.std.proofs.Common.{◌≡◌, ◌≢◌, ◌⊎◌, inl, inr, ⊎_elim, eq-or-lt_of_le, ℕ, zero, suc, ◌+◌, ◌<◌, ◌≤◌, List, [], ◌∷◌, ◌++◌, length, take, refl, sym, ap, ◌∙◌, subst, append_assoc, append-nil, length-append, arith}
 use Rattle.std.proofs.lemmas.Bool.{cases_lt}
 use Rattle.foz_words.specs.declared.key.Key.{Key}
@@ -194,7 +194,7 @@ module _ {Cause : Type 0} where
         ]
       ]
 
-  -- a front of the lines, and then the others
+  -- a prefix of the lines, and then the others
   pub entries_then : (before : List Entry) (xs ys : List (Line Cause)) → entries_alone before (xs ++ ys) ≡ entries_alone (entries_alone before xs) ys
   entries_then before [] ys = refl
   entries_then before (skipped ∷ xs) ys = entries_then before xs ys

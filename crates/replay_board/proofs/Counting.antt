@@ -55,7 +55,7 @@ last_below s events added rows row last h c e =
 pub counted_at : (s t : Setup) (es fs : List Event) (rows seen : List Counts) → s ≡ t → es ≡ fs → rows ≡ seen → AreCounted t fs seen → AreCounted s es rows
 counted_at s t es fs rows seen a b e h = subst (λ (x : Setup). AreCounted x es rows) (sym a) (subst (λ (x : List Event). AreCounted t x rows) (sym b) (subst (AreCounted t fs) (sym e) h))
 
--- the row after a call, behind those from before it
+-- the row after a call, after those from before it
 pub later_row : (before after : History) (added : List Event) → after ≡ with_events before added → (rows : List Counts) (row last : Counts) → AreCounted before.setup before.events rows → IsCountOf after.setup after.events row → EndsWith rows last → last.events ≤ row.events
 later_row before after added is rows row last h c e = last_below before.setup before.events added rows row last h (subst (λ (x : History). IsCountOf x.setup x.events row) is c) e
 

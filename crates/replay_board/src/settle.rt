@@ -1,4 +1,4 @@
-// What a turn leaves behind in the desk.
+// What a turn leaves in the desk.
 ghost use Rattle.std.specs.Prelude.{◌≡◌, ◌-◌, ◌≤◌, ◌++◌, length, replicate, vec_capacity};
 ghost use Rattle.replay_core.specs.Runs.{IsRun};
 ghost use Rattle.replay_core.specs.Histories.{room_of};

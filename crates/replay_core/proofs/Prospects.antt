@@ -27,7 +27,7 @@ none_unless (Some v) h = absurd (h (λ e. cc))
 pub All-at : {X : Type 0} (P : X → Type 0) (xs : List X) (p : ℕ) (x : X) → slice_get xs p ≡ Some x → All P xs → P x
 All-at P xs p x h all = subst P (get_or_from_slice_get xs p x x h) (all p x (slice_get_within xs p x h))
 
--- what holds of each element of a front holds of the element at a place in the front
+-- what holds of each element of a prefix holds of the element at a place in the prefix
 pub All-at_front : {X : Type 0} (P : X → Type 0) (xs : List X) (n p : ℕ) (x : X) → p < n → slice_get xs p ≡ Some x → All P (take n xs) → P x
 All-at_front P [] n p x l h all = absurd (let e : None ≡ Some x = h in cc)
 All-at_front P (y ∷ xs) zero p x l h all = absurd (omega arith)

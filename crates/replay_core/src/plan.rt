@@ -4,7 +4,7 @@ ghost use Rattle.replay_core.specs.Histories.{IsInRange, IsPlan, IsShortRow};
 use foz_words::{Key, NoMemory, Row};
 use std::alloc::Global;
 
-/// What an item stands on: another item of the plan, or a key that no item has.
+/// What an item depends on: another item of the plan, or a key that no item has.
 #[derive(Clone, Copy, Debug, PartialEq, Eq)]
 pub enum Dep {
     Item(u32),

@@ -512,7 +512,7 @@ fn items_come_to_their_fates_whatever_the_schedule(rt: HostRuntime) {
 
 const MANY: u32 = 1_048_576;
 
-/// An item of a chain stands on the one before it, or on the one after it.
+/// An item of a chain depends on the one before it, or on the one after it.
 fn link(alloc: Global, item: u32, backwards: bool) -> Result<Row<Dep>, NoMemory> {
     let mut row = Vec::new(alloc);
     if backwards && item < MANY - 1 {
@@ -577,7 +577,7 @@ const ONE_REFUSED: Counts = Counts {
     retired: 0,
 };
 
-/// Each item behind the first of a chain that was refused is missing at its first place.
+/// Each item after the first of a chain that was refused is missing at its first place.
 fn is_passed_on(core: &Core, counts: Counts) -> bool {
     let missing = Some(Verdict::Missing(0));
     let lost = core.verdicts().iter().filter(|v| **v == missing).count();

@@ -73,7 +73,7 @@ pub fn settle(story: &mut Record, queues: &mut Queues)
     }
 }
 
-/// The first item that is ready and waits, at the front of what is left of the ready ones.
+/// The first item that is ready and waits, at the beginning of what is left of the ready ones.
 pub fn first_ready(story: &Record, queues: &mut Queues) -> Option<u32>
     requires kept { QueuesKept story.now queues.old }
     requires done { queues.old.list.head ≡ length queues.old.list.fresh.items }

@@ -17,7 +17,7 @@ line_more line start written more n so_far wrote =
     ∙ (flat_map_more line start (range_with_len 0 n) n
     ∙ ap (λ (ns : List ℕ). start ++ flat_map line ns) (sym (range_push n))))
 
--- two texts behind the lines
+-- two texts after the lines
 pub two_more : (start lines first second a b c : List ℕ) → a ≡ start ++ lines → b ≡ a ++ first → c ≡ b ++ second → c ≡ start ++ (lines ++ (first ++ second))
 two_more start lines first second a b c all one two =
     two ∙ (ap (λ (l : List ℕ). l ++ second) (one ∙ ap (λ (l : List ℕ). l ++ first) all)

@@ -13,7 +13,7 @@ varint_words (varint.TooLarge at) = codes "varint large " ++ decimal at
 varint_words (varint.Extra at) = codes "varint extra " ++ decimal at
 varint_words varint.Memory = codes "memory"
 
--- Why a payload can't be read. No entry of an archive is told so for its tag or for want of memory.
+-- Why a payload can't be read. No entry of an archive is told so for its tag or for running out of memory.
 abbrev pub unreadable_words : Unreadable → List ℕ
 unreadable_words (unreadable.WrongTag tag) = codes "tag " ++ decimal tag
 unreadable_words unreadable.NoZeroByte = codes "zero"

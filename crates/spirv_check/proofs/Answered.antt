@@ -1,4 +1,4 @@
--- The answer of a module fits its words, and isn't want of memory.
+-- The answer of a module fits its words, and isn't running out of memory.
 use Rattle.std.proofs.Common.{ℕ, zero, suc, ◌≡◌, ◌≢◌, ◌+◌, ◌-◌, ◌/◌, ◌<◌, ◌≤◌, ◌⊎◌, inl, inr, Bool, true, false, cond, ◌==◌, ◌&&◌, nat_lt, nat_le, List, [], ◌∷◌, ◌++◌, length, get_or, take, drop, Option, Some, None, Result, Ok, Err, refl, ap, sym, subst, ◌∙◌, arith}
 use Rattle.std.proofs.lemmas.Bool.Decides.{nat_tests}
 use Rattle.std.proofs.lemmas.List.{length-drop, length-take-le, take-append-drop, get_or-take}
@@ -14,7 +14,7 @@ use Rattle.spirv_check.proofs.Framing.{Splits-length}
 use Rattle.spirv_check.proofs.Judging as judging
 use Rattle.spirv_check.specs.Answered.{first_count, begins_framed, instructions_in, words_after, body_answer, answer_of}
 
--- an answer that fits the words, and isn't want of memory
+-- an answer that fits the words, and isn't running out of memory
 pub record IsAnswer (words : List ℕ) (answer : Result Shape SpirvError) : Type 0 where
   pub fits : Answers words answer
   pub told : answer ≢ Err Memory
@@ -68,7 +68,7 @@ stops (suc most) words few = elim (is_test (begins_framed words)) [
       rw holds (stops most (drop (first_count words) words) (omega arith))
 ]
 
--- ---- what framed instructions answer isn't want of memory
+-- ---- what framed instructions answer isn't running out of memory
 
 begin_told : (opened : Option ℕ) (at : ℕ) → begin_fault opened at ≢ Some Memory
 begin_told None at = λ e. cc
@@ -162,7 +162,7 @@ answered words = elim (is_test (nat_lt (length words) 5)) [
   ]
 ]
 
--- no other answer fits, but for want of memory
+-- no other answer fits, but for running out of memory
 pub one_answer : (words : List ℕ) (answer : Result Shape SpirvError) → answer ≢ Err Memory → Answers words answer → answer ≡ answer_of words
 one_answer words answer told fits =
     let known = answered words in

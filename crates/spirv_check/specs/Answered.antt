@@ -31,7 +31,7 @@ unfoldable pub body_answer : List ℕ → List ℕ → Result Shape SpirvError
 body_answer words [] = judged (instructions_in (length words) 5 (drop 5 words))
 body_answer words (w ∷ ws) = Err (BadLength (length words - length (w ∷ ws)))
 
--- the answer of a module: the one that fits these words, but for want of memory
+-- the answer of a module: the one that fits these words, but for running out of memory
 unfoldable pub answer_of : List ℕ → Result Shape SpirvError
 answer_of words =
     if nat_lt (length words) 5 then Err (Short (length words))

@@ -38,7 +38,7 @@ unfoldable pub Splits : ℕ → List ℕ → List Instruction → List ℕ → T
 Splits at words [] rest = words ≡ rest
 Splits at words (i ∷ is) rest = (after : List ℕ) × (words ≡ i.words ++ after) × IsFramed i.words × (i.at ≡ at) × Splits (at + length i.words) after is rest
 
--- no instruction stands at the front
+-- no instruction stands at the beginning
 pub record IsUnframed (words : List ℕ) : Type 0 where
   pub some : 0 < length words
   pub count : (count_of (slice_index words 0) ≡ 0) ⊎ (length words < count_of (slice_index words 0))

@@ -13,7 +13,7 @@ pub fn one_framing()
         Splits at words instructions [] → Splits at words others [] → instructions ≡ others }
 {}
 
-/// Whatever the words are, one answer fits them, but for want of memory.
+/// Whatever the words are, one answer fits them, but for running out of memory.
 pub fn one_answer()
     ensures fits { (words : List ℕ) → Answers words (answer_of words) }
     ensures told { (words : List ℕ) → answer_of words ≢ Err Memory }

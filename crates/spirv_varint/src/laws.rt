@@ -4,7 +4,7 @@ ghost use Rattle.spirv_varint.specs.Reading.{Answers, Splits};
 ghost use Rattle.spirv_varint.specs.declared.error.VarintError.{VarintError};
 ghost use Rattle.spirv_varint.specs.declared.error.VarintError.TheVariants.{Memory};
 
-/// Bytes and a number of words have at most one answer, besides want of memory, and what is written for words is read
+/// Bytes and a number of words have at most one answer, besides running out of memory, and what is written for words is read
 /// as these words. A word takes one to five bytes.
 pub fn one_reading()
     ensures alone { (bytes : List ℕ) (count : ℕ) (answer other : Result (List ℕ) VarintError) → answer ≢ Err Memory → other ≢ Err Memory → Answers bytes count answer → Answers bytes count other → answer ≡ other }

@@ -14,7 +14,7 @@ hashed w = w.mixer
 abbrev pub kept : WordWriter → Option (List ℕ)
 kept w = w.row
 
--- These words were taken. A writer that keeps words may drop them for want of memory.
+-- These words were taken. A writer that keeps words may drop them for running out of memory.
 pub record Writes (old : WordWriter) (ws : List ℕ) (new : WordWriter) : Type 0 where
   pub hashes : hashed new ≡ fold mixed (hashed old) ws
   pub keeps : IsSome (kept new) → kept new ≡ option_map (λ r. r ++ ws) (kept old)

@@ -1,4 +1,4 @@
--- One thing alone stands at the front.
+-- One thing alone stands at the beginning.
 use Rattle.std.proofs.Common.{ℕ, ◌≡◌, inl, inr, cond, ltb, List, [], ◌∷◌, ◌++◌, length, ap, sym, subst, ◌∙◌, append_assoc}
 use Rattle.std.proofs.lemmas.List.{append-nil}
 use Rattle.worker_msg.specs.Frames.{IsBody, framed}

@@ -175,7 +175,7 @@ unfolding work_head le32 le64
 length-work_head true key n = refl
 length-work_head false key n = refl
 
--- a frame that is laid over the front of some bytes
+-- a frame that is laid over the beginning of some bytes
 pub laid : (out payload : List ℕ) (loading : Bool) (key : Key) (k : ℕ) → length payload + 17 ≤ length out → k ≡ length payload
     → put_mid 17 k (work_head loading key (length payload) ++ drop 17 out) payload ≡ work_spelling loading key payload ++ drop (17 + length payload) out
 laid out payload loading key k room is =
@@ -190,7 +190,7 @@ laid out payload loading key k room is =
     ∙ (sym (drop-drop (length payload) 17 start) ∙ (ap (drop (length payload)) (drop_at head (drop 17 out) 17 size) ∙ drop-drop (length payload) 17 out)) in
     sym (take-append-drop n (put_mid 17 k start payload)) ∙ (ap (λ l. l ++ drop n (put_mid 17 k start payload)) (front ∙ work_spelled loading key payload) ∙ ap (λ l. work_spelling loading key payload ++ l) back)
 
--- bytes at the front let go of what stands before them
+-- bytes at the beginning let go of what stands before them
 pub moved : (bytes : List ℕ) (count len : ℕ) → count ≤ len → len ≤ length bytes → take (len - count) (copy_within bytes count len 0) ≡ drop count (take len bytes)
 moved bytes count len within inside =
     let left = len - count in

@@ -48,7 +48,7 @@ pub record HasPayload (side : Side) (bytes : List ℕ) : Type 0 where
   pub spells : Spells side bytes message
   pub carries : CarriesPayload message
 
--- the message's spelling stood at the front, and what follows it is kept
+-- the message's spelling stood at the beginning, and what follows it is kept
 pub record TakesMessage (old : Feeding) (message : Msg) (new : Feeding) : Type 0 where
   pub sent : Sent old.side message
   pub spelled : old.kept ≡ spelling message ++ new.kept
@@ -61,7 +61,7 @@ pub record IsBadAt (feed : Feeding) (at : ℕ) : Type 0 where
   pub bad : IsBad feed.side feed.kept within
   pub place : at ≡ feed.place + within
 
--- a Load or a Do stands at the front
+-- a Load or a Do stands at the beginning
 pub record WantsMemory (feed : Feeding) : Type 0 where
   pub message : Msg
   pub rest : List ℕ

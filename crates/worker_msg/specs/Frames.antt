@@ -11,7 +11,7 @@ use Rattle.worker_msg.specs.declared.side.Side.TheVariants.{Worker, Crew}
 abbrev pub limit : ℕ
 limit = 16777216
 
--- a body behind its length
+-- a body after its length
 unfoldable pub framed : List ℕ → List ℕ
 framed body = le32 (length body) ++ body
 
@@ -64,7 +64,7 @@ Sent Crew (Do key payload) = ⊥
 Sent Crew (Reply key code) = IsKey key × (code < 2 ^ 32)
 Sent Crew Quit = ⊥
 
--- the body of a frame of a kind that this side takes; the fields behind its kind may be any bytes
+-- the body of a frame of a kind that this side takes; the fields after its kind may be any bytes
 pub data IsBody (side : Side) (body : List ℕ) : Type 0 where
   hello : side ≡ Crew → body ≡ hello_body → IsBody side body
   load : side ≡ Worker → (fields : List ℕ) → body ≡ 2 ∷ fields → 12 ≤ length fields → length fields ≤ 12 + limit → IsBody side body

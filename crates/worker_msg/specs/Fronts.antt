@@ -1,4 +1,4 @@
--- What stands at the front of some bytes.
+-- What stands at the beginning of some bytes.
 use Rattle.std.specs.Prelude.{ℕ, ◌≡◌, ◌≢◌, nat_lt, if◌then◌else◌, List, [], ◌∷◌, ◌++◌, length, drop}
 use Rattle.worker_msg.specs.Frames.{IsBody, framed}
 use Rattle.worker_msg.specs.declared.side.Side.{Side}
@@ -28,7 +28,7 @@ pub record IsBad (side : Side) (bytes : List ℕ) (place : ℕ) : Type 0 where
   pub none : Begins side (good ++ byte ∷ []) → ⊥
   pub at : place ≡ (if nat_lt (length good) 4 then 0 else length good)
 
--- a frame of so many bytes stands at the front
+-- a frame of so many bytes stands at the beginning
 pub record IsWhole (side : Side) (bytes : List ℕ) (len : ℕ) : Type 0 where
   pub body : List ℕ
   pub is_body : IsBody side body

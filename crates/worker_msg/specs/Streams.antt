@@ -16,7 +16,7 @@ pub record Splits (side : Side) (stream : List ℕ) (messages : List Msg) (rest 
   pub whole : stream ≡ row_of messages ++ rest
   pub each : AllByRecursion (Sent side) messages
 
--- no message can be taken from the front: no whole frame stands there, or a bad one
+-- no message can be taken from the beginning: no whole frame stands there, or a bad one
 abbrev pub HasNone : Side → List ℕ → Type 0
 HasNone side rest = IsPartial side rest ⊎ ((place : ℕ) × IsBad side rest place)
 

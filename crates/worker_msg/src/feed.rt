@@ -109,7 +109,7 @@ impl Feed {
         }
     }
 
-    /// The message whose frame stands at the front of the bytes that are kept, if all of it does. After `BadFrame` the feed
+    /// The message whose frame stands at the beginning of the bytes that are kept, if all of it does. After `BadFrame` the feed
     /// answers the same from then on, whatever is added. Memory is taken for the payload of a Load or a Do alone, and an
     /// `Err` changes nothing.
     pub fn take(&mut self, alloc: Global) -> Result<Option<Msg>, TakeFrame>
@@ -143,7 +143,7 @@ impl Feed {
         }
     }
 
-    /// Lets so many bytes at the front go.
+    /// Lets so many bytes at the beginning go.
     fn pass(&mut self, count: usize)
         requires { count ≤ length self.old.kept }
         ensures { self.new ≡ record { side = self.old.side; place = self.old.place + count; kept = drop count self.old.kept } }

@@ -1,4 +1,4 @@
-// What stands at the front of the bytes that a feed keeps.
+// What stands at the beginning of the bytes that a feed keeps.
 ghost use Rattle.std.specs.Prelude.{◌≡◌, ◌≢◌, ◌+◌, ◌<◌, ◌≤◌, ◌↔◌, length, take, slice_index, IsTrue, IfSome, IfNone};
 ghost use Rattle.worker_msg.specs.Frames.{IsWorkLength, IsWorkKind};
 ghost use Rattle.worker_msg.specs.Fronts.{Stands, IsHead};

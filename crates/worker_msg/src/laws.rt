@@ -22,7 +22,7 @@ pub fn one_split()
         (messages ≡ others) × (rest ≡ left) }
 {}
 
-/// One message stands at the front, or the beginning of one, or a bad frame at one place, and nothing else beside it.
+/// One message stands at the beginning, or the beginning of one, or a bad frame at one place, and nothing else beside it.
 pub fn one_front()
     ensures message { (side : Side) (message other : Msg) (x y : List ℕ) → Sent side message → Sent side other →
         spelling message ++ x ≡ spelling other ++ y → (message ≡ other) × (x ≡ y) }

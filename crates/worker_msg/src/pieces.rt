@@ -3,7 +3,7 @@ use foz_words::NoMemory;
 use std::alloc::Global;
 use std::marker::Model;
 
-/// Bytes that grow at the end and are passed at the front, which contracts see as those that weren't passed.
+/// Bytes that grow at the end and are passed at the beginning, which contracts see as those that weren't passed.
 #[derive(Debug, Drop)]
 pub(crate) struct Pieces {
     bytes: Vec<u8>,
@@ -61,7 +61,7 @@ impl Pieces {
         }
     }
 
-    /// Lets so many bytes at the front go.
+    /// Lets so many bytes at the beginning go.
     pub(crate) fn pass(&mut self, count: usize)
         requires { count ≤ length self.old }
         ensures { self.new ≡ drop count self.old }

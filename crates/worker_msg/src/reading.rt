@@ -57,7 +57,7 @@ fn answer_of(frame: &[u8]) -> Msg
     }
 }
 
-/// The key whose bytes stand at the front.
+/// The key whose bytes stand at the beginning.
 fn key_of(fields: &[u8]) -> Key
     requires { 12 ≤ length fields.now }
     ensures spelled { fields.now ≡ key_bytes result ++ drop 12 fields.now }

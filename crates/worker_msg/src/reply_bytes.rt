@@ -51,7 +51,7 @@ impl ReplyBytes {
         count
     }
 
-    /// Lets so many bytes at the front go.
+    /// Lets so many bytes at the beginning go.
     pub(crate) fn pass(&mut self, count: usize)
         requires { count ≤ length self.old }
         ensures { self.new ≡ drop count self.old }

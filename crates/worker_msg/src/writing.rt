@@ -44,7 +44,7 @@ fn push_work(out: &mut Vec<u8>, load: bool, key: &Key, payload: &[u8]) -> Result
     }
 }
 
-/// Writes the frame of a Load, where `load` is true, or of a Do at the front of `out`, and answers its length. It takes no
+/// Writes the frame of a Load, where `load` is true, or of a Do at the beginning of `out`, and answers its length. It takes no
 /// memory, and leaves what stands after the frame.
 pub fn lay_msg(out: &mut [u8], load: bool, key: Key, payload: &[u8]) -> usize
     requires payload { length payload.now ≤ limit }

@@ -18,15 +18,15 @@ pub record IsCut (stream : List ℕ) (messages : List Msg) (rest : List ℕ) : T
   pub split : Splits Worker stream messages rest
   pub going : AllByRecursion (λ message. message ≢ Quit) messages
 
--- a Quit stands at the front
+-- a Quit stands at the beginning
 abbrev pub BeginsQuit : List ℕ → Type 0
 BeginsQuit rest = (more : List ℕ) × (rest ≡ spelling Quit ++ more)
 
--- no message that is worked off stands at the front
+-- no message that is worked off stands at the beginning
 abbrev pub Stops : List ℕ → Type 0
 Stops rest = BeginsQuit rest ⊎ HasNone Worker rest
 
--- The messages at the front of a stream are worked off. What is written is a Hello, and a reply to each Do.
+-- The messages at the beginning of a stream are worked off. What is written is a Hello, and a reply to each Do.
 pub record IsSession {M : Type 0} (creates : M → Key → State → ℕ → M → Type 0) (before : M) (stream rest out : List ℕ) (after : M) : Type 0 where
   pub messages : List Msg
   pub replies : List Msg
@@ -42,7 +42,7 @@ pub record IsWholeSession {M : Type 0} (creates : M → Key → State → ℕ �
   pub session : IsSession creates before stream rest out after
   pub stops : Stops rest
 
--- a front of the stream is worked off, and of what that session writes a front was written
+-- a prefix of the stream is worked off, and of what that session writes a prefix was written
 pub record IsCutShort {M : Type 0} (creates : M → Key → State → ℕ → M → Type 0) (before : M) (stream out : List ℕ) (after : M) : Type 0 where
   pub front : List ℕ
   pub behind : List ℕ
@@ -71,7 +71,7 @@ ComesTo left messages rest served.ReadFault = ⊥
 ComesTo left messages rest served.WriteFault = ⊥
 ComesTo left messages rest served.Memory = ⊥
 
--- the end of a stream behind which so much is left in the source
+-- the end of a stream after which so much is left in the source
 pub record IsEnd (stream left : List ℕ) (end : Served) : Type 0 where
   pub messages : List Msg
   pub rest : List ℕ

@@ -82,7 +82,7 @@ pub record IsCutting (taken : List ℕ) (feed : Feeding) : Type 0 where
   pub cut : IsCut taken messages feed.kept
   pub place : feed.place ≡ length (row_of messages)
 
--- these messages are worked off, and all replies are written behind what was written before
+-- these messages are worked off, and all replies are written after what was written before
 pub record IsWorking {M : Type 0} (creates : M → Key → State → ℕ → M → Type 0) (before : M) (start taken : List ℕ) (feed : Feeding) (output : List ℕ) (standing : Standing M) : Type 0 where
   pub messages : List Msg
   pub replies : List Msg
@@ -91,7 +91,7 @@ pub record IsWorking {M : Type 0} (creates : M → Key → State → ℕ → M �
   pub works : WorksAll creates before messages replies standing
   pub written : output ≡ start ++ (spelling Hello ++ row_of replies)
 
--- serving ended so, and wrote this behind what was written before
+-- serving ended so, and wrote this after what was written before
 pub record IsServedBehind {M : Type 0} (creates : M → Key → State → ℕ → M → Type 0) (before : M) (start taken written : List ℕ) (after : M) (end : Served) : Type 0 where
   pub out : List ℕ
   pub is : written ≡ start ++ out

@@ -34,7 +34,7 @@ fn create<R: Driver>(
     }
 }
 
-/// What a payload answers that can't be read: nothing, but for want of memory.
+/// What a payload answers that can't be read: nothing, but for running out of memory.
 fn not_created(cause: Unreadable) -> Result<Option<u32>, NoMemory>
     ensures { IfOk result (λ code. (code ≡ None) × (cause ≢ Memory)) }
 {

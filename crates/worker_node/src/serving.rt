@@ -41,7 +41,7 @@ pub fn serve<I: Source, O: Sink, R: Driver>(
     }
 }
 
-/// Serves a source behind the Hello.
+/// Serves a source after the Hello.
 fn serve_pieces<I: Source, O: Sink, R: Driver>(
     alloc: Global,
     source: &mut I,
