@@ -149,6 +149,7 @@ fn run_started<B: SlotTurns, S: Slot, R: Wait>(
     ensures faults { result ≡ SlotEnd.Retired → Rose (S.start_faults slot.old) (S.start_faults slot.new) }
     ensures retired { result ≡ SlotEnd.Retired → slot_at (B.events seat.new) (B.slot seat.old) ≡ SlotState.Retired }
     ensures finished { result ≡ SlotEnd.Finished → AllDecided (B.setup seat.new) (B.seen seat.new) }
+    ensures idle { result ≡ SlotEnd.Finished → slot_at (B.events seat.new) (B.slot seat.old) ≡ SlotState.Idle }
 {
     for _ in rt.forever() {
         match board.next(rt, seat) {
@@ -195,6 +196,7 @@ pub fn run_slot<B: SlotTurns, S: Slot, R: Wait>(
     ensures faults { result ≡ SlotEnd.Retired → Rose (S.start_faults slot.old) (S.start_faults slot.new) }
     ensures retired { result ≡ SlotEnd.Retired → slot_at (B.events (seat_in kit.new)) (B.slot (seat_in kit.old)) ≡ SlotState.Retired }
     ensures finished { result ≡ SlotEnd.Finished → AllDecided (B.setup (seat_in kit.new)) (B.seen (seat_in kit.new)) }
+    ensures idle { result ≡ SlotEnd.Finished → slot_at (B.events (seat_in kit.new)) (B.slot (seat_in kit.old)) ≡ SlotState.Idle }
 {
     let Ok(()) = slot.start(rt) else {
         board.retire(rt, &mut kit.seat);

@@ -4,3 +4,4 @@ pub mod Loads
 pub mod Answers
 pub mod Telling
 pub mod Laws
+pub mod Views

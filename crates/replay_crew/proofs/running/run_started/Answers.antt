@@ -53,6 +53,11 @@ returns-in-Finished-clause-told g c =
     let told = tell_same (orders_of c.args.jobs.now) (g.B.SlotTurns.slot c.args.seat.now) (Working c.args.loader.now) (Working c.loop.loader) (g.B.SlotTurns.events c.loop.seat) (g.B.SlotTurns.events c.next-in-loop.new.seat) (g.S.Slot.log c.args.slot.now) (g.S.Slot.log c.loop.slot) c.in-Finished.ensures.events was.told in
     tell_quit (orders_of c.args.jobs.now) (g.B.SlotTurns.slot c.args.seat.now) (Working c.args.loader.now) c.loop.loader (g.B.SlotTurns.events c.next-in-loop.new.seat) (g.S.Slot.log c.args.slot.now) (g.S.Slot.log c.loop.slot) (g.S.Slot.log c.quit.new.slot) told c.quit.ensures.quits
 
+pub returns-in-Finished-clause-idle : goal.returns-in-Finished-clause-idle
+returns-in-Finished-clause-idle g c = λ _.
+    let was = c.loop.invariant in
+    ap (λ w. slot_at (g.B.SlotTurns.events c.next-in-loop.new.seat) w) (sym was.same) ∙ (ap (λ es. slot_at es (g.B.SlotTurns.slot c.loop.seat)) (c.in-Finished.ensures.events ∙ append-nil (g.B.SlotTurns.events c.loop.seat)) ∙ was.idle)
+
 pub carry_out-requires-clause-held : goal.carry_out-requires-clause-held
 carry_out-requires-clause-held g c = holds_after_start (g.B.SlotTurns.events c.loop.seat) (g.B.SlotTurns.events c.next-in-loop.new.seat) (g.B.SlotTurns.slot c.next-in-loop.new.seat) (g.B.SlotTurns.slot c.loop.seat) c.in-Work.item c.in-Work.ensures.slot c.in-Work.ensures.events
 
