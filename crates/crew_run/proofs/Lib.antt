@@ -1,0 +1,5 @@
+mod Places
+mod Seats
+mod Played
+mod Kits
+mod Picked
