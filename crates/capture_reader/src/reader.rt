@@ -11,7 +11,7 @@ use state_words::key_of;
 use std::alloc::Global;
 
 /// The lines of an input that are still to come. It is short enough for each state in it to have a key.
-#[derive(Drop)]
+#[derive(Clone, Copy)]
 pub struct CaptureReader<'a> {
     rest: &'a [u8],
     ghost short: { length rest.now < 2 ^ 30 },
@@ -39,6 +39,18 @@ impl Lines for CaptureReader<'_> {
         let next = prepared(alloc, line)?;
         self.rest = rest;
         Ok(Some(next))
+    }
+
+    #[tactic(auto, using(crate::proofs::Said::one_passed, crate::proofs::Said::none_passed))]
+    fn skip(&mut self) {
+        if let Some((_line, later)) = first_line(self.rest) {
+            self.rest = later;
+        }
+    }
+
+    #[tactic(auto, using(crate::proofs::Said::is_said))]
+    fn is_at_end(&self) -> bool {
+        self.rest.is_empty()
     }
 }
 

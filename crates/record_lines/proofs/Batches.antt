@@ -23,7 +23,7 @@ module _ {Cause : Type 0} where
   pub records_counted : (xs ys : List (Line Cause)) → length (records_of (xs ++ ys)) ≡ length (records_of xs) + length (records_of ys)
   records_counted xs ys = ap length (records_then xs ys) ∙ length-append (records_of xs) (records_of ys)
 
-  alone_added : (before : List Entry) (lines : List (Line Cause)) → entries_alone before lines ≡ added_to before (records_of lines)
+  pub alone_added : (before : List Entry) (lines : List (Line Cause)) → entries_alone before lines ≡ added_to before (records_of lines)
   alone_added before [] = refl
   alone_added before (skipped ∷ lines) = alone_added before lines
   alone_added before (refused cause ∷ lines) = alone_added before lines

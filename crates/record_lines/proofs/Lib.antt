@@ -1,3 +1,5 @@
 pub mod Batches
+pub mod Added
 pub mod SoFar
 pub mod Images
+pub mod Apart

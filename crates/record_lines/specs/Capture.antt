@@ -16,6 +16,7 @@ use Rattle.record_lines.specs.declared.capture.CaptureStop.{CaptureStop}
 use Rattle.record_lines.specs.declared.capture.CaptureStop.TheVariants.{Archive, DiskFault, Memory}
 use Rattle.record_lines.specs.Recording.{AreRecorded}
 use Rattle.record_lines.specs.Batches.{LeavesBatches}
+use Rattle.record_lines.specs.Added.{LeavesAdded}
 
 abbrev pub stop_of_open : OpenCause → CaptureStop
 stop_of_open open_causes.DiskFault = DiskFault
@@ -33,30 +34,31 @@ pub record IsLeftRefused (before after : List ℕ) (error : ArchiveError) : Type
   pub same : after ≡ before
 
 module _ {Cause : Type 0} where
-  -- the report is one of these lines, recorded in order on some entries
-  pub record AreAnswered (lines : List (Line Cause)) (report : Report Cause) : Type 0 where
+  -- the report is one of these lines, recorded by so many threads on some entries
+  pub record AreAnswered (lines : List (Line Cause)) (threads : ℕ) (report : Report Cause) : Type 0 where
     pub before : List Entry
     pub later : List Entry
-    pub recorded : AreRecorded before lines 1 later report.answers
+    pub recorded : AreRecorded before lines threads later report.answers
     pub counted : report.entries ≡ length later
 
-  -- the lines were recorded after the entries that the content held, and it is now an archive of all of them
-  pub record IsCaptured (before after : List ℕ) (lines : List (Line Cause)) (report : Report Cause) : Type 0 where
+  -- so many threads recorded the lines after the entries that the content held, and it is now an archive of all of them
+  pub record IsCaptured (before after : List ℕ) (lines : List (Line Cause)) (threads : ℕ) (report : Report Cause) : Type 0 where
     pub entries : List Entry
     pub held : Holds before entries
     pub later : List Entry
-    pub recorded : AreRecorded entries lines 1 later report.answers
+    pub recorded : AreRecorded entries lines threads later report.answers
     pub counted : report.entries ≡ length later
     pub archive : IsArchiveOf after later
 
   -- how it ends; `fault` says that a count of faults rose
-  abbrev pub CaptureEnds : List ℕ → List ℕ → Type 0 → List (Line Cause) → Result (Report Cause) CaptureStop → Type 0
-  CaptureEnds before after fault lines (Ok report) = IsCaptured before after lines report
-  CaptureEnds before after fault lines (Err (Archive error)) = IsLeftRefused before after error
-  CaptureEnds before after fault lines (Err DiskFault) = fault
-  CaptureEnds before after fault lines (Err Memory) = Unit {0}
+  abbrev pub CaptureEnds : List ℕ → List ℕ → Type 0 → List (Line Cause) → ℕ → Result (Report Cause) CaptureStop → Type 0
+  CaptureEnds before after fault lines threads (Ok report) = IsCaptured before after lines threads report
+  CaptureEnds before after fault lines threads (Err (Archive error)) = IsLeftRefused before after error
+  CaptureEnds before after fault lines threads (Err DiskFault) = fault
+  CaptureEnds before after fault lines threads (Err Memory) = Unit {0}
 
-  -- wherever it ends, of a content that held a list of entries
-  pub record CaptureLeaves (before : List ℕ) (old new : History) (lines : List (Line Cause)) : Type 0 where
+  -- Wherever it ends, of a content that held a list of entries. With one thread the order of what is added is known too.
+  pub record CaptureLeaves (before : List ℕ) (old new : History) (lines : List (Line Cause)) (threads : ℕ) : Type 0 where
     pub goes_on : GoesOn old new
-    pub batches : (entries : List Entry) → Holds before entries → LeavesBatches entries lines old new
+    pub added : (entries : List Entry) → Holds before entries → LeavesAdded entries lines old new
+    pub batches : threads ≡ 1 → (entries : List Entry) → Holds before entries → LeavesBatches entries lines old new

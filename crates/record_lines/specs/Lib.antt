@@ -1,4 +1,5 @@
 pub mod Lines
 pub mod Recording
 pub mod Batches
+pub mod Added
 pub mod Capture

@@ -9,6 +9,7 @@ use crate::recording::{RecordStop, Report, record_lines};
 use disk_model::Disk;
 use foz_archive::{ArchiveError, OpenCause, OpenRefused, readings_are_unique};
 use record_dedup::Book;
+use record_words::lines_in_order_make_a_record;
 use std::alloc::Global;
 
 /// Why a capture was not recorded whole.
@@ -60,15 +61,16 @@ pub fn record_capture<D: Disk, L: Lines>(
 ) -> Captured<D, L::Cause>
     requires few { length (L.rest lines.old) < 2 ^ 32 }
 
-    ensures ends { D.tells_content → CaptureEnds (D.content disk) (D.content result.disk) (Rose (D.faults disk) (D.faults result.disk)) (L.rest lines.old) result.outcome }
-    ensures leaves { D.tells_images → NothingPending (latest (D.history disk)) → CaptureLeaves (D.content disk) (D.history disk) (D.history result.disk) (L.rest lines.old) }
+    ensures ends { D.tells_content → CaptureEnds (D.content disk) (D.content result.disk) (Rose (D.faults disk) (D.faults result.disk)) (L.rest lines.old) 1 result.outcome }
+    ensures leaves { D.tells_images → NothingPending (latest (D.history disk)) → CaptureLeaves (D.content disk) (D.history disk) (D.history result.disk) (L.rest lines.old) 1 }
     ensures durable { D.tells_images → IsOk result.outcome → NothingPending (latest (D.history result.disk)) }
     // Whatever the disk tells, the answers are those of one thread on some entries.
-    ensures answered { IfOk result.outcome (AreAnswered (L.rest lines.old)) }
+    ensures answered { IfOk result.outcome (AreAnswered (L.rest lines.old) 1) }
     ensures fault { result.outcome ≡ Err CaptureStop.DiskFault → Rose (D.faults disk) (D.faults result.disk) }
     ensures later { D.faults disk ≤ D.faults result.disk }
 {
     readings_are_unique();
+    lines_in_order_make_a_record::<L::Cause>();
     let mut book = match Book::open(alloc, disk) {
         Ok(book) => book,
         Err(OpenRefused { disk, cause }) => {

@@ -1,5 +1,5 @@
 //! A capture, a line at a time.
-ghost use Rattle.std.specs.Prelude.{List, IfOk};
+ghost use Rattle.std.specs.Prelude.{◌≡◌, ◌==◌, List, length, drop, IfOk, OnErr};
 ghost use Rattle.record_words.specs.Recorded.{Line};
 ghost use Rattle.record_lines.specs.Lines.{IsNext};
 
@@ -25,7 +25,16 @@ pub trait Lines {
     /// The lines that are still to come, as they will be read.
     ghost rest: { Self → List (Line Self.Cause) };
 
-    /// The next line, or None where all were read.
+    /// The next line, or None where none is left. Out of memory passes over no line.
     fn next(&mut self, alloc: Global) -> Result<Option<NextLine<Self::Cause>>, NoMemory>
-        ensures { IfOk result (λ next. IsNext (rest self.old) next (rest self.new)) };
+        ensures line { IfOk result (λ next. IsNext (rest self.old) next (rest self.new)) }
+        ensures stays { OnErr result (rest self.new ≡ rest self.old) };
+
+    /// Passes over the next line, which isn't read. Where none is left nothing changes.
+    fn skip(&mut self)
+        ensures { rest self.new ≡ drop 1 (rest self.old) };
+
+    /// Is no line left?
+    fn is_at_end(&self) -> bool
+        ensures { result ≡ (length (rest self.now) == 0) };
 }

@@ -12,5 +12,5 @@ mod tests;
 pub use laws::{seats_have_their_calls, threads_make_records, ties_tell_the_payload};
 pub use prepared::{Prepared, prepare};
 pub use record_words::{RecordCall, RecordNote, RecordReply};
-pub use recorder::{BookRefused, Receipt, RecordSeat, Recorder};
+pub use recorder::{BookDesk, BookRefused, Receipt, RecordSeat, Recorder, flush_at, record_at};
 pub use shelf::Shelf;

@@ -1,3 +1,15 @@
+ghost use Rattle.std.specs.Prelude.{◌≡◌, ◌≢◌, ◌⊎◌, ℕ, ◌+◌, ◌<◌, [], length, Some, MatchOption, IfOk, IfErr};
+ghost use mathlib.Core.List.{IsPrefix};
+ghost use Rattle.turn_desk.specs.Story.{Adds, notes_of, root_of, split_from, split_off, joined_with, AreApart, HasAllBack, HasKept, IsAllOf};
+ghost use Rattle.turn_desk.specs.Seats.{view_of, IsSameSeat, IsOutside, IsSeatOf};
+ghost use Rattle.record_words.specs.Story.{Legal};
+ghost use Rattle.record_dedup.specs.Kept.{Booked, IsKept, recorder_of};
+ghost use Rattle.record_dedup.specs.Steps.{flush_told};
+ghost use Rattle.record_threads.specs.Ties.{IsRecordNote, IsFlushNote};
+ghost use Rattle.record_threads.specs.Shelves.{LeadsTo};
+ghost use Rattle.record_threads.specs.Calls.{seat_of, reply_received, HasNoted};
+ghost use Rattle.record_threads.specs.Seats.{IsSeatAt, IsTurn};
+
 use crate::prepared::Prepared;
 use crate::shelf::Shelf;
 use disk_model::Disk;
@@ -8,6 +20,9 @@ use turn_desk::{Desk, DeskRefused, Seat, turns_add_own_notes};
 
 /// The right to call a recorder, for one thread at a time.
 pub type RecordSeat<D> = Seat<Shelf<D>>;
+
+/// The desk at which the book of a recorder lies. Threads share it by `&`.
+pub type BookDesk<D> = Desk<Shelf<D>>;
 
 /// A book that threads share by `&`, each with a seat of its own.
 #[derive(Drop)]
@@ -29,18 +44,6 @@ pub struct Receipt {
 }
 
 impl<D: Disk + Drop> Recorder<D> {
-    ghost use Rattle.std.specs.Prelude.{◌≡◌, ◌≢◌, ◌⊎◌, ℕ, ◌+◌, ◌<◌, [], length, Some, MatchOption, IfOk, IfErr};
-    ghost use mathlib.Core.List.{IsPrefix};
-    ghost use Rattle.turn_desk.specs.Story.{Adds, notes_of, root_of, split_from, split_off, joined_with, AreApart, HasAllBack, HasKept, IsAllOf};
-    ghost use Rattle.turn_desk.specs.Seats.{view_of, IsSameSeat, IsOutside};
-    ghost use Rattle.record_words.specs.Story.{Legal};
-    ghost use Rattle.record_dedup.specs.Kept.{Booked, IsKept, recorder_of};
-    ghost use Rattle.record_dedup.specs.Steps.{flush_told};
-    ghost use Rattle.record_threads.specs.Ties.{IsRecordNote, IsFlushNote};
-    ghost use Rattle.record_threads.specs.Shelves.{LeadsTo};
-    ghost use Rattle.record_threads.specs.Calls.{seat_of, reply_received, HasNoted};
-    ghost use Rattle.record_threads.specs.Seats.{IsSeatAt, IsTurn};
-
     /// Shares a book. It alone takes memory beside the notes of calls.
     pub fn new(alloc: Global, book: Book<D>) -> Result<(Recorder<D>, RecordSeat<D>), BookRefused<D>>
         ensures seat { IfOk result (λ r. IsSeatAt r.0 r.1) }
@@ -89,6 +92,13 @@ impl<D: Disk + Drop> Recorder<D> {
         self.desk.join(root, other);
     }
 
+    /// What threads share of the recorder.
+    pub fn desk(&self) -> &BookDesk<D>
+        ensures { result.now ≡ self.now.desk }
+    {
+        &self.desk
+    }
+
     /// Records in a turn of its own, which is one note of the story. Running out of memory leaves no note.
     pub fn record<R: Wait>(
         &self,
@@ -110,15 +120,7 @@ impl<D: Disk + Drop> Recorder<D> {
         ensures mine { notes_of seat_of (view_of seat.new).number (view_of seat.new).seen ≡ (view_of seat.new).mine }
         ensures legal { (origin : Booked D) → (view_of seat.new).origin ≡ Some origin → Legal (recorder_of origin) (view_of seat.new).seen }
     {
-        turns_add_own_notes::<Shelf<D>>();
-        let mut shelf = self.desk.enter(rt, seat);
-        let at = shelf.count() as u64;
-        let answer = shelf.record(seat.number(), prepared.key, prepared.payload.as_slice());
-        self.desk.leave(seat, shelf);
-        match answer {
-            Ok(ack) => Ok(Receipt { ack, at }),
-            Err(error) => Err(error),
-        }
+        record_at(&self.desk, rt, seat, prepared)
     }
 
     /// Flushes in a turn of its own, which is one note of the story. Running out of memory leaves no note.
@@ -134,11 +136,7 @@ impl<D: Disk + Drop> Recorder<D> {
         ensures mine { notes_of seat_of (view_of seat.new).number (view_of seat.new).seen ≡ (view_of seat.new).mine }
         ensures legal { (origin : Booked D) → (view_of seat.new).origin ≡ Some origin → Legal (recorder_of origin) (view_of seat.new).seen }
     {
-        turns_add_own_notes::<Shelf<D>>();
-        let mut shelf = self.desk.enter(rt, seat);
-        let answer = shelf.flush(seat.number());
-        self.desk.leave(seat, shelf);
-        answer
+        flush_at(&self.desk, rt, seat)
     }
 
     /// The book, once each seat is back. The root has then seen the whole story, which leads to the book, and of which each
@@ -163,4 +161,60 @@ impl<D: Disk + Drop> Recorder<D> {
         let _ = book.entries();
         book
     }
+}
+
+/// Records in a turn of its own, which is one note of the story. Running out of memory leaves no note.
+pub fn record_at<D: Disk + Drop, R: Wait>(
+    desk: &BookDesk<D>,
+    rt: &R,
+    seat: &mut RecordSeat<D>,
+    prepared: &Prepared,
+) -> Result<Receipt, RecordError>
+    requires seat { IsSeatOf desk.now seat.old }
+    requires outside { IsOutside seat.old }
+    requires turns { (view_of seat.old).turns < 4294967294 }
+    ensures same { IsSameSeat seat.old seat.new }
+    ensures outside { IsOutside seat.new }
+    ensures turn { IsTurn (view_of seat.old) (view_of seat.new) }
+
+    // What the seat has then seen: notes of others, and the note of this call.
+    ensures told { MatchOption (reply_received result) (Adds seat_of (view_of seat.old) [] (view_of seat.new))
+        (λ reply. HasNoted (view_of seat.old) (IsRecordNote prepared.now.key prepared.now.payload reply) (view_of seat.new)) }
+    ensures place { IfOk result (λ receipt. length (view_of seat.new).seen ≡ receipt.at + 1) }
+    ensures mine { notes_of seat_of (view_of seat.new).number (view_of seat.new).seen ≡ (view_of seat.new).mine }
+    ensures legal { (origin : Booked D) → (view_of seat.new).origin ≡ Some origin → Legal (recorder_of origin) (view_of seat.new).seen }
+{
+    turns_add_own_notes::<Shelf<D>>();
+    let mut shelf = desk.enter(rt, seat);
+    let at = shelf.count() as u64;
+    let answer = shelf.record(seat.number(), prepared.key, prepared.payload.as_slice());
+    desk.leave(seat, shelf);
+    match answer {
+        Ok(ack) => Ok(Receipt { ack, at }),
+        Err(error) => Err(error),
+    }
+}
+
+/// Flushes in a turn of its own, which is one note of the story. Running out of memory leaves no note.
+pub fn flush_at<D: Disk + Drop, R: Wait>(
+    desk: &BookDesk<D>,
+    rt: &R,
+    seat: &mut RecordSeat<D>,
+) -> Result<u32, FlushError>
+    requires seat { IsSeatOf desk.now seat.old }
+    requires outside { IsOutside seat.old }
+    requires turns { (view_of seat.old).turns < 4294967294 }
+    ensures same { IsSameSeat seat.old seat.new }
+    ensures outside { IsOutside seat.new }
+    ensures turn { IsTurn (view_of seat.old) (view_of seat.new) }
+    ensures told { MatchOption (flush_told result) (Adds seat_of (view_of seat.old) [] (view_of seat.new))
+        (λ reply. HasNoted (view_of seat.old) (IsFlushNote reply) (view_of seat.new)) }
+    ensures mine { notes_of seat_of (view_of seat.new).number (view_of seat.new).seen ≡ (view_of seat.new).mine }
+    ensures legal { (origin : Booked D) → (view_of seat.new).origin ≡ Some origin → Legal (recorder_of origin) (view_of seat.new).seen }
+{
+    turns_add_own_notes::<Shelf<D>>();
+    let mut shelf = desk.enter(rt, seat);
+    let answer = shelf.flush(seat.number());
+    desk.leave(seat, shelf);
+    answer
 }

@@ -7,7 +7,7 @@ use Rattle.record_lines.proofs.recording.record_lines.Goals as goal
 
 pub returns-in_err-unwritten-clause-prefix : goal.returns-in_err-unwritten-clause-prefix
 returns-in_err-unwritten-clause-prefix g c =
-    let next = rw c.in-Some.is at c.in_ok-line.ensures in
+    let next = rw c.in-Some.is at c.in_ok-line.ensures.line in
     more_recorded _ _ _ _ _ _ _ _ c.loop-answers.invariant.so_far (line_of c.in-Some.line) _ next _ c.in_err-unwritten.ensures.refused
 
 pub returns-in_err-unwritten-clause-few_wait : goal.returns-in_err-unwritten-clause-few_wait
@@ -21,13 +21,13 @@ returns-in_err-unwritten-clause-batches g c told durable =
 
 pub returns-in_err-unwritten-2-clause-prefix : goal.returns-in_err-unwritten-2-clause-prefix
 returns-in_err-unwritten-2-clause-prefix g c =
-    let next = rw c.in-Some.is at c.in_ok-line.ensures in
+    let next = rw c.in-Some.is at c.in_ok-line.ensures.line in
     more_recorded _ _ _ _ _ _ _ _ c.loop-answers.invariant.so_far (line_of c.in-Some.line) _ next _ (inr (c.write_full.ensures.entries ∙ c.in_ok-unwritten.ensures.recorded))
 
 pub returns-in_err-unwritten-2-clause-batches : goal.returns-in_err-unwritten-2-clause-batches
 returns-in_err-unwritten-2-clause-batches g c told durable =
     let d = g.D.Disk in
-    let next = rw c.in-Some.is at c.in_ok-line.ensures in
+    let next = rw c.in-Some.is at c.in_ok-line.ensures.line in
     let ok = c.in_ok-unwritten.ensures in
     let grown = so_much_more _ _ _ _ _ _ _ _ c.loop-answers.invariant.so_far (line_of c.in-Some.line) _ next _ _ _ _ _ refl ok.recorded ok.answered (ap (λ (b : Booked _). b.flushed) c.answer.ensures.same) ok.counted in
     batch_leaves _ _ _ _ _ _ _ _ grown _ (d.history c.answer.new.book.disk) _ (omega (arith, ok.one, c.loop-answers.invariant.few))
@@ -37,7 +37,7 @@ returns-in_err-unwritten-2-clause-batches g c told durable =
 pub loop-answers-preserved : goal.loop-answers-preserved
 loop-answers-preserved g c =
     let d = g.D.Disk in
-    let next = rw c.in-Some.is at c.in_ok-line.ensures in
+    let next = rw c.in-Some.is at c.in_ok-line.ensures.line in
     let ok = c.in_ok-unwritten.ensures in
     let wrote = c.in_ok-unwritten-2.ensures in
     let flushed = ap (λ (b : Booked _). b.flushed) c.answer.ensures.same in
@@ -71,17 +71,17 @@ loop-answers-init g c = record {
 
 pub returns-in_err-entries-clause-batches : goal.returns-in_err-entries-clause-batches
 returns-in_err-entries-clause-batches g c told durable =
-    let none = rw c.in_default.is at c.in_ok-line.ensures in
+    let none = rw c.in_default.is at c.in_ok-line.ensures.line in
     then_batches _ _ _ _ _ (c.loop-answers.invariant.images told durable)
     (flush_leaves _ _ _ _ _ _ _ _ c.loop-answers.invariant.so_far _ _ (inr (none, omega (arith, c.loop-answers.invariant.few))) (c.flush.ensures.any_moment told))
 
 pub returns-clause-batches : goal.returns-clause-batches
 returns-clause-batches g c told durable =
-    let none = rw c.in_default.is at c.in_ok-line.ensures in
+    let none = rw c.in_default.is at c.in_ok-line.ensures.line in
     then_batches _ _ _ _ _ (c.loop-answers.invariant.images told durable)
     (flush_leaves _ _ _ _ _ _ _ _ c.loop-answers.invariant.so_far _ _ (inr (none, omega (arith, c.loop-answers.invariant.few))) (c.flush.ensures.any_moment told))
 
 pub returns-clause-recorded : goal.returns-clause-recorded
 returns-clause-recorded g c =
-    let none = rw c.in_default.is at c.in_ok-line.ensures in
+    let none = rw c.in_default.is at c.in_ok-line.ensures.line in
     rw c.flush.ensures.entries (all_recorded _ _ _ _ _ _ _ _ c.loop-answers.invariant.so_far none)

@@ -4,7 +4,7 @@ use Rattle.record_dedup.specs.Steps.{reply_told}
 use Rattle.record_threads.specs.Ties.{IsRecordNote}
 use Rattle.record_threads.specs.Shelves.{IsNoted}
 use Rattle.record_threads.proofs.Turns.{goes_on, called, receipt_place}
-use Rattle.record_threads.proofs.recorder.Recorder.record.Goals as goal
+use Rattle.record_threads.proofs.recorder.record_at.Goals as goal
 
 pub leave-requires-clause-story : goal.leave-requires-clause-story
 leave-requires-clause-story g c =

@@ -4,7 +4,7 @@ use Rattle.record_dedup.specs.Steps.{flush_told}
 use Rattle.record_threads.specs.Ties.{IsFlushNote}
 use Rattle.record_threads.specs.Shelves.{IsNoted}
 use Rattle.record_threads.proofs.Turns.{goes_on, called}
-use Rattle.record_threads.proofs.recorder.Recorder.flush.Goals as goal
+use Rattle.record_threads.proofs.recorder.flush_at.Goals as goal
 
 pub leave-requires-clause-story : goal.leave-requires-clause-story
 leave-requires-clause-story g c =
