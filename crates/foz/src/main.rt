@@ -1,18 +1,24 @@
-//! The program `foz`: it hands the standard streams, the files of the system, the driver that checks states and its words
-//! to `foz_tool::run`.
+//! The program `foz`: it hands the standard streams, the files of the system, the slots for workers, the driver that checks
+//! states and its words to `foz_tool::run`.
 #![tactic(auto)]
+
+mod worker;
 
 use disk_model::{FolderShelf, StdSink, StdSource};
 use driver_check::CheckDriver;
 use foz_tool::{Host, run};
+use process_slot::crew_of;
 use std::env;
 use std::process::ExitCode;
 
 /// The status where the words can't be had.
 const USAGE: u8 = 2;
 
-/// The status where there is no memory for them.
+/// The status where there is no memory for them, or for the slots.
 const MEMORY: u8 = 7;
+
+/// How many workers run at most.
+const WORKERS: usize = 16;
 
 fn main(rt: HostRuntime) -> ExitCode {
     let alloc = rt.alloc();
@@ -25,12 +31,19 @@ fn main(rt: HostRuntime) -> ExitCode {
             return ExitCode::from(MEMORY);
         }
     }
+    let Ok(worker) = worker::program(&rt) else {
+        return ExitCode::from(MEMORY);
+    };
+    let Ok(crew) = crew_of(alloc, &rt, worker.as_str(), WORKERS) else {
+        return ExitCode::from(MEMORY);
+    };
     let mut host = Host {
         input: StdSource::new(rt.stdin()),
         output: StdSink::output(rt.stdout()),
         errors: StdSink::errors(rt.stderr()),
         files: FolderShelf::new(rt),
+        crew,
         driver: CheckDriver::new(alloc),
     };
-    ExitCode::from(run(alloc, words.as_slice(), &mut host))
+    ExitCode::from(run(&rt, alloc, words.as_slice(), &mut host))
 }

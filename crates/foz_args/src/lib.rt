@@ -4,7 +4,7 @@
 mod command;
 mod number;
 
-pub use command::{ArgError, Command, command_of};
+pub use command::{ArgError, Command, command_for, command_of};
 
 #[cfg(test)]
 mod tests;

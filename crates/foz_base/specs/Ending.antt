@@ -51,9 +51,10 @@ Causes read disk (Err WriteFault) = ⊥
 Causes read disk (Err Usage) = ⊥
 Causes read disk (Err stop) = Unit {0}
 
--- the causes of the statuses that tell a fault, and none is that of usage
+-- the causes of the statuses that tell a fault; none is that of usage, or of a replay that leaves items unanswered
 pub record HasCauses (unread unwritten failed : Type 0) (status : ℕ) : Type 0 where
   pub no_usage : status ≢ 2
   pub read : status ≡ 3 → unread
   pub write : status ≡ 4 → unwritten
   pub disk : status ≡ 5 → failed
+  pub answered : status ≢ 9

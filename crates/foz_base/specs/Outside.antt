@@ -4,6 +4,7 @@ use Rattle.disk_model.specs.Disk.{History, NothingPending, latest}
 use Rattle.disk_model.specs.Faults.{Rose}
 use Rattle.disk_model.specs.Place.{Place, missing, stored, out}
 use Rattle.foz_archive.specs.OnlyRead.{OnlyReads}
+use Rattle.slot_log.specs.Views.{SlotView}
 
 -- there is no file of a name, or one with this content, or it is taken
 pub data File : Type 0 where
@@ -52,6 +53,8 @@ pub record Outside (M : Type 0) : Type 0 where
   pub written : List ℕ
   pub output_faults : ℕ
   pub files : Files
+  -- the slots that the workers of a replay run in
+  pub crew : List SlotView
   pub driver : M
 
 -- what the objects of the outside tell: the input and the output their bytes, the files their content and their history

@@ -17,11 +17,15 @@ use Rattle.foz_base.specs.FileWork.{bytes_of}
 use Rattle.foz_base.specs.InputRead.{IsInputRead, input_limit}
 use Rattle.foz_base.specs.Outside.{File, holds}
 
--- lines are recorded after what a content held, or it is refused and stays
-abbrev pub Captures : {Cause : Type 0} → List (Line Cause) → List ℕ → List ℕ → Result (Report Cause) Stop → Type 0
-Captures lines before after (Ok report) = IsCaptured before after lines report
-Captures lines before after (Err (Archive error)) = IsLeftRefused before after error
-Captures lines before after (Err stop) = Unit {0}
+-- so many threads record lines after what a content held, or it is refused and stays
+abbrev pub Captures : {Cause : Type 0} → List (Line Cause) → ℕ → List ℕ → List ℕ → Result (Report Cause) Stop → Type 0
+Captures lines threads before after (Ok report) = IsCaptured before after lines threads report
+Captures lines threads before after (Err (Archive error)) = IsLeftRefused before after error
+Captures lines threads before after (Err stop) = Unit {0}
+
+-- the most threads that record together
+abbrev pub team_limit : ℕ
+team_limit = 16
 
 -- the lines that a capture of one line still has
 abbrev pub lines_left : {Cause : Type 0} → Option (NextLine Cause) → List (Line Cause)

@@ -1,8 +1,8 @@
 //! Files that a command reads or writes. What is taken is put back.
-ghost use Rattle.std.specs.Prelude.{◌≡◌, ◌≢◌, ◌⊎◌, ◌≤◌, ℕ, List, IfOk, IfErr, IsOk};
-ghost use Rattle.disk_model.specs.Disk.{latest};
+ghost use Rattle.std.specs.Prelude.{◌≡◌, ◌≢◌, ◌⊎◌, ◌≤◌, ℕ, List, IfOk, IfErr, IsOk, OnErr};
+ghost use Rattle.disk_model.specs.Disk.{latest, IsMade};
 ghost use Rattle.disk_model.specs.Faults.{Rose};
-ghost use Rattle.disk_model.specs.Place.{out};
+ghost use Rattle.disk_model.specs.Place.{missing, out, stored, with_place};
 ghost use Rattle.foz_base.specs.Outside.{file_of, history_of, files_of, FileFaultRose, IsFileOnlyRead, IsSettledFile, WorksOn};
 ghost use Rattle.foz_base.specs.FileRead.{FileReads, IsBounded, ReadCauses};
 ghost use Rattle.foz_base.specs.FileWork.{Writes, WriteCauses, FileLeaves};
@@ -42,10 +42,34 @@ pub fn read_file<F: Shelf>(alloc: Global, files: &mut F, name: &str) -> Result<S
 }
 
 /// What holds of every disk that tells its images. No code is in it.
-fn laws_of_disks<D: Disk>()
+pub(crate) fn laws_of_disks<D: Disk>()
     ensures both { D.tells_images → D.tells_content }
     ensures is_now { D.tells_images → (disk : D) → D.content disk ≡ (latest (D.history disk)).now }
 {}
+
+/// Takes a file of the shelf to write it. One that isn't there is made.
+pub(crate) fn take_to_write<F: Shelf>(
+    alloc: Global,
+    files: &mut F,
+    name: &str,
+) -> Result<F::Held, Stop>
+    requires here { F.tells → F.places files.old name.now ≢ out }
+
+    ensures taken { F.tells → IfOk result (λ disk. (F.places files.old name.now ≡ stored disk)
+        ⊎ ((F.places files.old name.now ≡ missing) × IsMade F.Held.tells_content F.Held.tells_images (F.Held.content disk) (F.Held.history disk) (F.Held.faults disk))) }
+    ensures now_out { F.tells → IfOk result (λ disk. F.places files.new ≡ with_place (F.places files.old) name.now out) }
+    ensures left { F.tells → OnErr result (F.places files.new ≡ F.places files.old) }
+    ensures later { F.faults files.old ≤ F.faults files.new }
+    ensures untaken { IfErr result (WriteCauses (F.tells → Rose (F.faults files.old) (F.faults files.new))) }
+    ensures no_archive { IfErr result (λ stop. (stop ≡ Stop.DiskFault) ⊎ (stop ≡ Stop.Memory)) }
+{
+    match files.take(alloc, name, Mode::Write) {
+        Ok(disk) => Ok(disk),
+        Err(TakeError::Memory) => Err(Stop::Memory),
+        // A file that isn't there is made, so it is never absent.
+        Err(TakeError::Absent | TakeError::Failed) => Err(Stop::DiskFault),
+    }
+}
 
 /// Does a work on a file of the shelf. One that isn't there is made.
 pub fn write_file<F: Shelf, W: Work + Drop>(
@@ -67,12 +91,7 @@ pub fn write_file<F: Shelf, W: Work + Drop>(
         IfErr result (WriteCauses (F.tells → FileFaultRose (seen (F.places files.old) (F.faults files.old)) (seen (F.places files.new) (F.faults files.new)) name.now)) }
 {
     laws_of_disks::<F::Held>();
-    let disk = match files.take(alloc, name, Mode::Write) {
-        Ok(disk) => disk,
-        Err(TakeError::Memory) => return Err(Stop::Memory),
-        // A file that isn't there is made, so it is never absent.
-        Err(TakeError::Absent | TakeError::Failed) => return Err(Stop::DiskFault),
-    };
+    let disk = take_to_write(alloc, files, name)?;
     let worked = work.work_on(alloc, disk);
     files.put_back(name, worked.disk);
     worked.outcome

@@ -13,6 +13,6 @@ pub use complaint::complain;
 pub use ending::{Printout, finish};
 pub use files::{read_file, write_file};
 pub use input::read_input;
-pub use recording::{OneLine, Recording, only_reply};
+pub use recording::{OneLine, Recording, only_reply, record_in_file};
 pub use stop::{Stop, status_of};
 pub use work::{Work, Worked};

@@ -32,7 +32,7 @@ pub trait Work {
     /// What a crash leaves of a content on which nothing was pending, at any moment from the one history to the other.
     ghost leaves: { Self → List ℕ → History → History → Type 0 };
 
-    fn work_on<D: Disk>(self, alloc: Global, disk: D) -> Worked<D, Self::Done>
+    fn work_on<D: Disk + Drop + Send>(self, alloc: Global, disk: D) -> Worked<D, Self::Done>
         requires ready { ready self }
         ensures does { D.tells_content → does self (D.content disk) (D.content result.disk) result.outcome }
         ensures leaves { D.tells_images → NothingPending (latest (D.history disk)) → leaves self (D.content disk) (D.history disk) (D.history result.disk) }

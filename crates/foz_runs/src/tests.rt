@@ -6,19 +6,26 @@ mod list;
 mod put;
 mod realistic;
 mod record;
+mod replay;
 mod texts;
+mod threads;
 mod words;
 mod worker;
 
-ghost use Rattle.std.specs.Prelude.{◌≢◌, ℕ, List, IfOk};
+ghost use Rattle.std.specs.Prelude.{◌≡◌, ◌≢◌, ◌<◌, ◌≤◌, ℕ, List, false, length, All, IfOk};
 ghost use Rattle.disk_model.specs.Place.{out};
 
 use disk_model::{MemDisk, MemShelf, MemSink, MemSource, Shelf};
 use driver_check::CheckDriver;
 use foz_tool::{Host, run};
+use foz_words::{Key, Row};
+use mem_slot::{Act, MemSlot};
+use slot_log::Slot;
 use std::alloc::Global;
 use std::process::Abort;
+use std::sync::Wait;
 use std::test::Fail;
+use std::thread::Threads;
 
 const HEADER: &[u8] = b"\x81FOSSILIZEDB\0\0\0\x06";
 
@@ -49,24 +56,48 @@ const ROOM: u64 = 1000;
 // nor what is said on the errors.
 const ERRORS_ROOM: usize = 1000;
 
-/// What a run is given: its words, the parts of a.foz, which may be absent, the input, and which calls fail of the disk of
-/// a.foz, of the shelf, of the input and of the output.
+/// What a worker does over an item.
+#[derive(Clone, Copy)]
+enum Deed<'a> {
+    Answers(u32),
+    Dies,
+    /// It sends these bytes.
+    Sends(&'a [u8]),
+}
+
+/// A slot of the crew: which of its starts fail, and what its workers do over these items. They answer 0 over the others.
+#[derive(Clone, Copy)]
+struct Place<'a> {
+    failing_starts: &'a [u32],
+    deeds: &'a [(Key, Deed<'a>)],
+}
+
+// A slot whose workers do all work.
+const WORKS: Place<'static> = Place {
+    failing_starts: &[],
+    deeds: &[],
+};
+
+/// What a run is given: its words, the parts of a.foz, which may be absent, the input, the slots for workers, and which calls
+/// fail of the disk of a.foz, of the shelf, of the input and of the output.
 #[derive(Clone, Copy)]
 struct Given<'a> {
     words: &'a str,
     file: Option<&'a [&'a [u8]]>,
     input: &'a [u8],
+    crew: &'a [Place<'a>],
     disk_failing: &'a [u64],
     shelf_failing: &'a [u64],
     input_failing: &'a [u64],
     output_failing: &'a [u64],
 }
 
-// No file and no input, and no call fails.
+// No file and no input, one slot, and no call fails.
 const NOTHING: Given<'static> = Given {
     words: "",
     file: None,
     input: b"",
+    crew: &[WORKS],
     disk_failing: &[],
     shelf_failing: &[],
     input_failing: &[],
@@ -84,7 +115,7 @@ struct Wanted<'a> {
 
 type Case = (Given<'static>, Wanted<'static>);
 
-type MemHost = Host<MemSource, MemSink, MemShelf, CheckDriver>;
+type MemHost = Host<MemSource, MemSink, MemShelf, MemSlot, CheckDriver>;
 
 /// The parts of a file in a row.
 fn joined(alloc: Global, parts: &[&[u8]]) -> Result<Vec<u8>, Fail> {
@@ -129,6 +160,37 @@ fn shelf_of(
 // No test has a longer input.
 const MOST_INPUT: usize = 134_217_728;
 
+fn act_of(alloc: Global, deed: &Deed<'_>) -> Result<Act, Fail> {
+    match deed {
+        Deed::Answers(code) => Ok(Act::Code(*code)),
+        Deed::Dies => Ok(Act::Die),
+        Deed::Sends(bytes) => Ok(Act::Raw(Row::from_vec(Vec::from_slice(alloc, bytes)?))),
+    }
+}
+
+/// A slot, with room for the log of a small replay.
+fn slot_of(alloc: Global, place: &Place<'_>) -> Result<MemSlot, Fail>
+    ensures at_rest { IfOk result (λ slot. ⟦<MemSlot as Slot>⟧.running slot ≡ false) }
+{
+    let mut acts = Vec::new(alloc);
+    for (key, deed) in place.deeds {
+        acts.push((*key, act_of(alloc, deed)?))?;
+    }
+    let failing = Vec::from_slice(alloc, place.failing_starts)?;
+    Ok(MemSlot::new(alloc, failing, acts, 100, 5000)?)
+}
+
+fn crew_of(alloc: Global, places: &[Place<'_>]) -> Result<Vec<MemSlot>, Fail>
+    ensures count { IfOk result (λ crew. length crew.items ≡ length places.now) }
+    ensures at_rest { IfOk result (λ crew. All (λ slot. ⟦<MemSlot as Slot>⟧.running slot ≡ false) crew.items) }
+{
+    let mut crew = Vec::new(alloc);
+    for place in places {
+        crew.push(slot_of(alloc, place)?)?;
+    }
+    Ok(crew)
+}
+
 /// An outside with this shelf, whose driver has created nothing.
 fn host_of(
     rt: &impl Abort,
@@ -138,7 +200,11 @@ fn host_of(
 ) -> Result<MemHost, Fail>
     requires nothing_out { (name : List ℕ) → ⟦<MemShelf as Shelf>⟧.places files name ≢ out }
     ensures nothing_out { IfOk result (λ host. (name : List ℕ) → ⟦<MemShelf as Shelf>⟧.places host.files name ≢ out) }
+    ensures some { IfOk result (λ host. (0 < length host.crew.items) × (length host.crew.items ≤ 16)) }
+    ensures at_rest { IfOk result (λ host. All (λ slot. ⟦<MemSlot as Slot>⟧.running slot ≡ false) host.crew.items) }
 {
+    assert!(rt; (1..=16).contains(&given.crew.len()));
+    let crew = crew_of(alloc, given.crew)?;
     let input = Vec::from_slice(alloc, given.input)?;
     assert!(rt; input.len() <= MOST_INPUT);
     let input_failing = Vec::from_slice(alloc, given.input_failing)?;
@@ -148,6 +214,7 @@ fn host_of(
         output: MemSink::new(alloc, 20_000, 7, output_failing)?,
         errors: MemSink::new(alloc, ERRORS_ROOM, 7, Vec::new(alloc))?,
         files,
+        crew,
         driver: CheckDriver::new(alloc),
     })
 }
@@ -163,7 +230,7 @@ struct Left {
 
 /// Runs the program over a shelf on which a.foz has these bytes, if any, and so much room.
 fn run_over(
-    rt: &impl Abort,
+    rt: &(impl Abort + Wait + Threads + Sync),
     alloc: Global,
     file: Option<Vec<u8>>,
     room: u64,
@@ -172,7 +239,7 @@ fn run_over(
     let words = words_of(alloc, given.words)?;
     let shelf = shelf_of(alloc, file, room, given)?;
     let mut host = host_of(rt, alloc, shelf, given)?;
-    let status = run(alloc, words.as_slice(), &mut host);
+    let status = run(rt, alloc, words.as_slice(), &mut host);
     left_of(alloc, status, &host)
 }
 
@@ -216,7 +283,7 @@ fn expect_file(rt: &impl Abort, given: &Given<'_>, left: Option<&[u8]>, wanted: 
 }
 
 fn expect_case(
-    rt: &impl Abort,
+    rt: &(impl Abort + Wait + Threads + Sync),
     alloc: Global,
     given: &Given<'_>,
     wanted: &Wanted<'_>,
@@ -229,7 +296,11 @@ fn expect_case(
 }
 
 /// Each run of a table comes to what is wanted.
-fn expect_cases(rt: &impl Abort, alloc: Global, cases: &[Case]) -> Result<(), Fail> {
+fn expect_cases(
+    rt: &(impl Abort + Wait + Threads + Sync),
+    alloc: Global,
+    cases: &[Case],
+) -> Result<(), Fail> {
     for (given, wanted) in cases {
         expect_case(rt, alloc, given, wanted)?;
     }

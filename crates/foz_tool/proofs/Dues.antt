@@ -1,5 +1,5 @@
 -- Where nothing fails, each command ends as it is due.
-use Rattle.std.proofs.Common.{◌≡◌, ◌≢◌, ◌⊎◌, inl, inr, ℕ, ◌<◌, ◌≤◌, List, ◌++◌, length, Option, Some, None, Result, Ok, Err, refl, sym, ap, ◌∙◌, subst, arith}
+use Rattle.std.proofs.Common.{◌≡◌, ◌≢◌, ◌⊎◌, inl, inr, ℕ, ◌<◌, ◌≤◌, List, ◌++◌, length, take, Option, Some, None, Result, Ok, Err, refl, sym, ap, ◌∙◌, subst, arith}
 use Rattle.disk_model.specs.Faults.{Rose}
 use Rattle.foz_words.specs.declared.key.Key.{Key}
 use Rattle.state_words.specs.declared.state.State.{State}
@@ -7,7 +7,7 @@ use Rattle.foz_entry.specs.declared.cut.Entry.{Entry}
 use Rattle.record_words.specs.declared.note.RecordReply.{RecordReply}
 use Rattle.record_words.specs.declared.note.RecordReply.TheVariants as replies
 use Rattle.record_words.specs.Recorder.{reply_of}
-use Rattle.record_words.specs.Recorded.{Line, Answer}
+use Rattle.record_words.specs.Recorded.{Line, Answer, AreAnswers}
 use Rattle.record_words.specs.Answered.{answered_from}
 use Rattle.worker_node.specs.Ends.{IsEnd, IsToEnd}
 use Rattle.worker_node.specs.declared.served.Served.{Served}
@@ -24,15 +24,17 @@ use Rattle.foz_base.specs.Status.{status_of_stop}
 use Rattle.capture_lines.specs.declared.error.LineError.{LineError}
 use Rattle.capture_reader.specs.Said.{lines_said}
 use Rattle.foz_args.specs.declared.command.Command.{Command}
-use Rattle.foz_args.specs.declared.command.Command.TheVariants.{List as List_, Put, Hash, Record, Check, Worker}
+use Rattle.foz_args.specs.declared.command.Command.TheVariants.{List as List_, Put, Hash, Record, Check, Worker, Replay}
 use Rattle.foz_text.specs.LineCause.{line_cause_text}
-use Rattle.foz_tool.specs.Due.{NoFault, IsDue, ListDue, HashDue, RecordingDue, PutDue, LinesDue, CheckDue, WorkerDue}
+use Rattle.foz_tool.specs.Due.{NoFault, IsDue, ListDue, HashDue, RecordingDue, PutDue, LinesDue, CheckDue, WorkerDue, ReplayDue}
 use Rattle.foz_tool.specs.Program.{Runs}
 use Rattle.foz_tool.specs.ListRun.{IsListTold}
 use Rattle.foz_tool.specs.HashRun.{IsHashTold}
 use Rattle.foz_tool.specs.PutRun.{IsPut, IsPutTold, StopsPut, status_of_reply}
 use Rattle.foz_tool.specs.RecordRun.{IsRecordTold, status_of_answers}
 use Rattle.foz_tool.specs.CheckRun.{IsCheckTold}
+use Rattle.slot_log.specs.Views.{SlotView}
+use Rattle.foz_tool.specs.ReplayRun.{IsFileReplayed}
 use Rattle.foz_tool.specs.WorkerRun.{HasFault, IsSession, status_of_served}
 use Rattle.foz_tool.proofs.Told.{HasOneRecord}
 
@@ -74,6 +76,18 @@ module _ (file : File) (fault : Type 0) (status : ℕ) (sound : ¬ fault) where
     pub check_due : Came (IsCheckTold creates file old new) (StopsReading file fault) status → (status ≡ 7) ⊎ CheckDue creates file old new status
     check_due (inl told) = inr (inr told)
     check_due (inr stop) = check_stop stop.0 stop.1.0 stop.1.1
+
+  module _ (old new : List SlotView) where
+    replay_stop : (stop : Stop) → StopsReading file fault stop → status ≡ status_of_stop stop → (status ≡ 7) ⊎ ReplayDue file old new status
+    replay_stop Absent why is = inr (inl (is, inl why))
+    replay_stop (Archive error) why is = inr (inl (is, inr (error, why)))
+    replay_stop ReadFault why is = absurd (sound why)
+    replay_stop Memory why is = inl is
+    replay_stop stop why is = absurd why
+
+    pub replay_due : Came (IsFileReplayed file old new) (StopsReading file fault) status → (status ≡ 7) ⊎ ReplayDue file old new status
+    replay_due (inl told) = inr (inr told)
+    replay_due (inr stop) = replay_stop stop.0 stop.1.0 stop.1.1
 
 -- ---- the input
 
@@ -118,13 +132,27 @@ module _ (input rest : List ℕ) (unread : Type 0) (status : ℕ) (sound : ¬ un
       put_due (inr stop) = put_stop stop.0 stop.1.0 stop.1.1
 
     module _ {Cause : Type 0} (cause_text : Cause → List ℕ) (lines_of : List ℕ → List (Line Cause)) where
-      pub record_due : HasOneRecord Cause → Came (IsRecordTold cause_text lines_of input rest before after) (StopsRecording input rest unread before after disk) status
-          → (status ≡ 7) ⊎ RecordingDue input before (LinesDue (lines_of input)) status
-      record_due law (inl told) =
+      pub record_due : HasOneRecord Cause → (threads : ℕ) → Came (IsRecordTold cause_text lines_of input rest threads before after) (StopsRecording input rest unread before after disk) status
+          → (status ≡ 7) ⊎ RecordingDue input before (LinesDue (lines_of input) threads) status
+      record_due law threads (inl told) =
           let t = told.1 in
-          let only = law t.entries t.later (lines_of input) t.recorded.answers t.recorded.are in
-          inr (inr (t.read.short, inr (t.entries, (t.held, t.status_is ∙ ap (λ (answers : List (Answer Cause)). status_of_answers (answered_from 1 (lines_of input) answers)) only.0))))
-      record_due law (inr stop) = record_stop (LinesDue (lines_of input)) stop.0 stop.1.0 stop.1.1
+          inr (inr (
+            t.read.short,
+            inr (
+              t.entries,
+              (
+                t.held,
+                record {
+                  later = t.later;
+                  answers = t.recorded.answers;
+                  are = t.recorded.are;
+                  alone = λ one. (law t.entries t.later (lines_of input) t.recorded.answers (subst (λ (n : ℕ). AreAnswers t.entries (lines_of input) n t.later t.recorded.answers) one t.recorded.are)).0;
+                  status_is = t.status_is;
+                },
+              ),
+            ),
+          ))
+      record_due law threads (inr stop) = record_stop (LinesDue (lines_of input) threads) stop.0 stop.1.0 stop.1.1
 
 -- ---- the worker
 
@@ -155,7 +183,9 @@ due law creates tells (Some Hash) before after status runs input output content 
     hash_due before.input after.input (Rose before.input_faults after.input_faults) status sound.input (ended _ _ before after status sound.output (runs.ended input output))
 due law creates tells (Some (Record file threads)) before after status runs input output content sound =
     record_due before.input after.input (Rose before.input_faults after.input_faults) status sound.input (before.files.content file) (after.files.content file) (FileFaultRose before.files after.files file) (sound.file file refl)
-    line_cause_text lines_said law (ended _ _ before after status sound.output (runs.ended input output content))
+    line_cause_text lines_said law threads (ended _ _ before after status sound.output (runs.ended input output content))
 due law creates tells (Some (Check file)) before after status runs input output content sound =
     check_due (before.files.content file) (FileFaultRose before.files after.files file) status (sound.file file refl) creates before.driver after.driver (ended _ _ before after status sound.output (runs.ended content output))
 due law creates tells (Some Worker) before after status runs input output content sound = worker_due creates before after status sound.input sound.output (runs.session input output)
+due law creates tells (Some (Replay file workers)) before after status runs input output content sound =
+    replay_due (before.files.content file) (FileFaultRose before.files after.files file) status (sound.file file refl) (take workers before.crew) (take workers after.crew) (ended _ _ before after status sound.output (runs.ended content output))

@@ -7,7 +7,7 @@ use Rattle.capture_reader.specs.Said.{lines_said}
 use Rattle.foz_args.specs.declared.command.ArgError.{ArgError}
 use Rattle.foz_args.specs.declared.command.ArgError.TheVariants as args
 use Rattle.foz_args.specs.declared.command.Command.{Command}
-use Rattle.foz_args.specs.declared.command.Command.TheVariants.{List as List_, Put, Hash, Record, Check, Worker}
+use Rattle.foz_args.specs.declared.command.Command.TheVariants.{List as List_, Put, Hash, Record, Check, Worker, Replay}
 use Rattle.foz_text.specs.LineCause.{line_cause_text}
 use Rattle.foz_base.specs.declared.stop.Stop.{Stop}
 use Rattle.foz_base.specs.declared.stop.Stop.TheVariants.{Memory}
@@ -49,3 +49,4 @@ module _ {M : Type 0} (outside : Outside M) where
   }
   out_of_memory creates cut tells (Some (Check file)) some = record { ended = λ content output. gone _ _ tt; only_read = λ content. rests tells.images file }
   out_of_memory creates cut tells (Some Worker) some = unserved creates cut tells outside
+  out_of_memory creates cut tells (Some (Replay file workers)) some = record { ended = λ content output. gone _ _ tt; only_read = λ content. rests tells.images file; other_slots = refl }

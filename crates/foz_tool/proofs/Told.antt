@@ -42,6 +42,10 @@ abbrev pub HasOneRecord : Type 0 → Type 0
 HasOneRecord Cause = (before later : List Entry) (lines : List (Line Cause)) (answers : List (Answer Cause)) → AreAnswers before lines 1 later answers
     → (answers ≡ answers_alone before lines) × (later ≡ entries_alone before lines)
 
+-- what the law of all threads says: no key is added that is held already
+abbrev pub AddEachKeyOnce : Type 0 → Type 0
+AddEachKeyOnce Cause = (before later : List Entry) (lines : List (Line Cause)) (threads : ℕ) (answers : List (Answer Cause)) → AreAnswers before lines threads later answers → AreApart before later
+
 -- ---- one line
 
 module _ (Cause : Type 0) (entries : List Entry) (key : Key) (payload : List ℕ) where
@@ -73,14 +77,14 @@ module _ (Cause : Type 0) (entries : List Entry) (key : Key) (payload : List ℕ
       let at = batches.each moment from until in
       ⊎_elim (held_after bytes at.0) (held_after bytes (at.0 + 1)) (at.1 bytes image)
 
-leaves_record : {Cause : Type 0} (key : Key) (payload bytes : List ℕ) (old new : History) → CaptureLeaves {Cause = Cause} bytes old new (read key payload ∷ []) → LeavesRecord key payload bytes old new
+leaves_record : {Cause : Type 0} (key : Key) (payload bytes : List ℕ) (old new : History) → CaptureLeaves {Cause = Cause} bytes old new (read key payload ∷ []) 1 → LeavesRecord key payload bytes old new
 leaves_record key payload bytes old new left = record {
   goes_on = left.goes_on;
-  each = λ entries held image might. leaves_one _ entries key payload old new (left.batches entries held) image might;
+  each = λ entries held image might. leaves_one _ entries key payload old new (left.batches refl entries held) image might;
 }
 
 pub put_leaves : {Cause : Type 0} (key : Key) (payload : List ℕ) (lines : List (Line Cause)) → lines ≡ read key payload ∷ [] → (before : File) (old new : Option History)
-    → FileLeaves (λ bytes start history. CaptureLeaves bytes start history lines) before old new → FileLeaves (LeavesRecord key payload) before old new
+    → FileLeaves (λ bytes start history. CaptureLeaves bytes start history lines 1) before old new → FileLeaves (LeavesRecord key payload) before old new
 put_leaves key payload lines is before old new left settled = elim (left settled) [
   | inl same ↦ inl same
   | inr work ↦ inr (record {
@@ -88,14 +92,14 @@ put_leaves key payload lines is before old new left settled = elim (left settled
     began = work.began;
     history = work.history;
     is_there = work.is_there;
-    left = leaves_record key payload (bytes_of before) work.start work.history (subst (λ (l : List (Line _)). CaptureLeaves (bytes_of before) work.start work.history l) is work.left);
+    left = leaves_record key payload (bytes_of before) work.start work.history (subst (λ (l : List (Line _)). CaptureLeaves (bytes_of before) work.start work.history l 1) is work.left);
   })
 ]
 
 pub is_put : {Cause : Type 0} → HasOneRecord Cause → (input rest : List ℕ) (all : IsInputRead input rest input) (before after : File) (key : Key) (report : Report Cause) (reply : RecordReply) (lines : List (Line Cause)) → lines ≡ read key input ∷ []
-    → IsWorkedOn (Captures lines) before after (Ok report) → only_reply report.answers ≡ Some reply → IsPut input rest before after key reply
+    → IsWorkedOn (Captures lines 1) before after (Ok report) → only_reply report.answers ≡ Some reply → IsPut input rest before after key reply
 is_put law input rest all before after key report reply lines is did only =
-    let captured : IsCaptured (bytes_of before) did.bytes (read key input ∷ []) report = subst (λ (l : List (Line _)). IsCaptured (bytes_of before) did.bytes l report) is did.done in
+    let captured : IsCaptured (bytes_of before) did.bytes (read key input ∷ []) 1 report = subst (λ (l : List (Line _)). IsCaptured (bytes_of before) did.bytes l 1 report) is did.done in
     let told = one_reply _ captured.entries key input law captured.later report.answers captured.recorded in
     let same : Some reply ≡ Some (reply_of captured.entries key input) = sym only ∙ told.1 in
     record {
@@ -107,7 +111,7 @@ is_put law input rest all before after key report reply lines is did only =
     }
 
 -- one line that is read has one answer
-pub always_replied : {Cause : Type 0} → HasOneRecord Cause → (key : Key) (payload : List ℕ) (lines : List (Line Cause)) → lines ≡ read key payload ∷ [] → (report : Report Cause) → AreAnswered lines report → only_reply report.answers ≡ None → ⊥
+pub always_replied : {Cause : Type 0} → HasOneRecord Cause → (key : Key) (payload : List ℕ) (lines : List (Line Cause)) → lines ≡ read key payload ∷ [] → (report : Report Cause) → AreAnswered lines 1 report → only_reply report.answers ≡ None → ⊥
 always_replied law key payload lines is report answered none =
     let told = one_reply _ answered.before key payload law answered.later report.answers (subst (λ (l : List (Line _)). AreRecorded answered.before l 1 answered.later report.answers) is answered.recorded) in
     some_not_none _ (sym told.1 ∙ none)
@@ -128,13 +132,12 @@ put_makes input rest unread before after disk key reply put (Err stop) told unto
 -- ---- many lines
 
 module _ {Cause : Type 0} (cause_text : Cause → List ℕ) (lines_of : List ℕ → List (Line Cause)) where
-  pub is_record_told : (input rest : List ℕ) (all : IsInputRead input rest input) (before after : File) (report : Report Cause) (lines : List (Line Cause)) → lines ≡ lines_of input → IsWorkedOn (Captures lines) before after (Ok report)
-      → HasOneRecord Cause → ((entries : List Entry) (lines : List (Line Cause)) → AreApart entries (entries_alone entries lines)) → (text : List ℕ) (status : ℕ) → text ≡ record_text cause_text report.answers report.entries
-      → status ≡ status_of_answers report.answers → IsRecordTold cause_text lines_of input rest before after text status
-  is_record_told input rest all before after report lines is did law are_apart text status text_is status_is =
-      let captured : IsCaptured (bytes_of before) did.bytes (lines_of input) report = subst (λ (l : List (Line Cause)). IsCaptured (bytes_of before) did.bytes l report) is did.done in
+  pub is_record_told : (input rest : List ℕ) (all : IsInputRead input rest input) (threads : ℕ) (before after : File) (report : Report Cause) (lines : List (Line Cause)) → lines ≡ lines_of input → IsWorkedOn (Captures lines threads) before after (Ok report)
+      → AddEachKeyOnce Cause → (text : List ℕ) (status : ℕ) → text ≡ record_text cause_text report.answers report.entries
+      → status ≡ status_of_answers report.answers → IsRecordTold cause_text lines_of input rest threads before after text status
+  is_record_told input rest all threads before after report lines is did are_apart text status text_is status_is =
+      let captured : IsCaptured (bytes_of before) did.bytes (lines_of input) threads report = subst (λ (l : List (Line Cause)). IsCaptured (bytes_of before) did.bytes l threads report) is did.done in
       let recorded = captured.recorded in
-      let only = law captured.entries captured.later (lines_of input) recorded.answers recorded.are in
       record {
         read = all;
         entries = captured.entries;
@@ -145,7 +148,7 @@ module _ {Cause : Type 0} (cause_text : Cause → List ℕ) (lines_of : List ℕ
           are = recorded.are;
           told = text_is ∙ ap (λ (answered : List (Answered Cause)). record_text cause_text answered report.entries) recorded.told ∙ ap (record_text cause_text (answered_from 1 (lines_of input) recorded.answers)) captured.counted;
         };
-        apart = subst (λ (es : List Entry). AreApart captured.entries es) (sym only.1) (are_apart captured.entries (lines_of input));
+        apart = are_apart captured.entries captured.later (lines_of input) threads recorded.answers recorded.are;
         archive = record { bytes = did.bytes; is_there = did.is_there; archive = captured.archive };
         status_is = status_is ∙ ap status_of_answers recorded.told;
       }

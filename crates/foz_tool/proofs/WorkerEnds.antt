@@ -50,22 +50,29 @@ serve_causes read write outcome status is unread unwritten = record {
   no_usage = λ e. never outcome status 2 is e (inl refl);
   read = λ e. unread (is_read_fault outcome status is e);
   write = λ e. unwritten (is_write_fault outcome status is e);
-  disk = λ e. never outcome status 5 is e (inr refl);
+  disk = λ e. never outcome status 5 is e (inr (inl refl));
+  answered = λ e. never outcome status 9 is e (inr (inr refl));
 }
   where
-    never : (outcome : Served) (status n : ℕ) → status ≡ status_of_served outcome → status ≡ n → (n ≡ 2) ⊎ (n ≡ 5) → ⊥
+    never : (outcome : Served) (status n : ℕ) → status ≡ status_of_served outcome → status ≡ n → (n ≡ 2) ⊎ (n ≡ 5) ⊎ (n ≡ 9) → ⊥
     never Quit status n is e (inl two) = absurd (omega arith)
-    never Quit status n is e (inr five) = absurd (omega arith)
+    never Quit status n is e (inr (inl five)) = absurd (omega arith)
+    never Quit status n is e (inr (inr nine)) = absurd (omega arith)
     never (InputEnded left) status n is e (inl two) = absurd (omega arith)
-    never (InputEnded left) status n is e (inr five) = absurd (omega arith)
+    never (InputEnded left) status n is e (inr (inl five)) = absurd (omega arith)
+    never (InputEnded left) status n is e (inr (inr nine)) = absurd (omega arith)
     never (BadFrame at) status n is e (inl two) = absurd (omega arith)
-    never (BadFrame at) status n is e (inr five) = absurd (omega arith)
+    never (BadFrame at) status n is e (inr (inl five)) = absurd (omega arith)
+    never (BadFrame at) status n is e (inr (inr nine)) = absurd (omega arith)
     never ReadFault status n is e (inl two) = absurd (omega arith)
-    never ReadFault status n is e (inr five) = absurd (omega arith)
+    never ReadFault status n is e (inr (inl five)) = absurd (omega arith)
+    never ReadFault status n is e (inr (inr nine)) = absurd (omega arith)
     never WriteFault status n is e (inl two) = absurd (omega arith)
-    never WriteFault status n is e (inr five) = absurd (omega arith)
+    never WriteFault status n is e (inr (inl five)) = absurd (omega arith)
+    never WriteFault status n is e (inr (inr nine)) = absurd (omega arith)
     never Memory status n is e (inl two) = absurd (omega arith)
-    never Memory status n is e (inr five) = absurd (omega arith)
+    never Memory status n is e (inr (inl five)) = absurd (omega arith)
+    never Memory status n is e (inr (inr nine)) = absurd (omega arith)
 
 module _ {M : Type 0} (creates : M → Key → State → ℕ → M → Type 0) where
   -- nothing was taken and nothing written, since memory ran out

@@ -7,3 +7,5 @@ pub mod CheckFates
 pub mod WorkerRun
 pub mod Program
 pub mod Due
+pub mod Outcome
+pub mod ReplayRun

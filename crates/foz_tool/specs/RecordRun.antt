@@ -37,24 +37,24 @@ module _ {Cause : Type 0} where
   text_of_lines cause_text lines answers entries = record_text cause_text (answered_from 1 lines answers) entries
 
   module _ (cause_text : Cause → List ℕ) (lines_of : List ℕ → List (Line Cause)) where
-    -- The lines of all of the input were recorded by one thread after the entries that the file held, and flushed. Each key
-    -- was added once, and none that was held.
-    pub record IsRecordTold (input rest : List ℕ) (before after : File) (text : List ℕ) (status : ℕ) : Type 0 where
+    -- The lines of all of the input were recorded by so many threads after the entries that the file held, and flushed. Each
+    -- key was added once, and none that was held.
+    pub record IsRecordTold (input rest : List ℕ) (threads : ℕ) (before after : File) (text : List ℕ) (status : ℕ) : Type 0 where
       pub read : IsInputRead input rest input
       pub entries : List Entry
       pub held : Holds (bytes_of before) entries
       pub later : List Entry
-      pub recorded : Recorded (text_of_lines cause_text) entries (lines_of input) 1 later text
+      pub recorded : Recorded (text_of_lines cause_text) entries (lines_of input) threads later text
       pub apart : AreApart entries later
       pub archive : IsArchiveFile after later
       pub status_is : status ≡ status_of_answers (answered_from 1 (lines_of input) recorded.answers)
 
-    -- `record` of the input into this file ended with this status. A crash at each moment leaves the entries that the file held,
-    -- recorded with some batches of the lines, or with one batch more.
-    pub record Records (tells : Tells) {M : Type 0} (before after : Outside M) (file : List ℕ) (status : ℕ) : Type 0 where
+    -- `record` of the input into this file by so many threads ended with this status. A crash at each moment leaves the entries
+    -- that the file held, with a prefix of what the lines add.
+    pub record Records (tells : Tells) {M : Type 0} (before after : Outside M) (file : List ℕ) (threads status : ℕ) : Type 0 where
       pub ended : tells.input → tells.output → tells.content → let old = before.files.content file in let new = after.files.content file in
-          Ended (IsRecordTold before.input after.input old new)
+          Ended (IsRecordTold before.input after.input threads old new)
           (StopsRecording before.input after.input (Rose before.input_faults after.input_faults) old new (FileFaultRose before.files after.files file)) before after status
       pub leaves : tells.input → tells.images
-          → FileLeaves (λ content old new. CaptureLeaves content old new (lines_of before.input)) (before.files.content file) (before.files.history file) (after.files.history file)
+          → FileLeaves (λ content old new. CaptureLeaves content old new (lines_of before.input) threads) (before.files.content file) (before.files.history file) (after.files.history file)
       pub durable : tells.images → IsFlushed status → IsSettledFile (after.files.history file)

@@ -10,13 +10,15 @@ ghost use Rattle.foz_base.specs.FileRead.{StopsReading};
 ghost use Rattle.foz_base.specs.Outside.{file_of, files_of, FileFaultRose, IsFileOnlyRead, WorksOn};
 
 use crate::host::{Host, Seen};
+use crate::outcome::outcome_of;
 use check_run::check_entries;
 use disk_model::{Shelf, Sink, Source};
 use driver_check::Driver;
 use foz_base::{Printout, Stop, finish, read_file};
 use foz_entry::Entry;
-use foz_words::{Name, NoMemory, Row};
-use replay_text::{Overall, decided_is_answered, push_replay};
+use foz_words::{Name, NoMemory};
+use replay_text::decided_is_answered;
+use slot_log::Slot;
 use std::alloc::Global;
 
 /// Replays the items of entries. Gives the text that tells how each entry came out, with 0 where each is well, else 1.
@@ -31,17 +33,8 @@ fn replay_told<R: Driver>(
 {
     decided_is_answered();
     let checked = check_entries(alloc, entries, driver)?;
-    let verdicts = checked.core.verdicts();
-    let events = checked.core.events();
-    let mut text = Vec::new(alloc);
-    let went = push_replay(alloc, &mut text, entries, &checked.graph, verdicts, events)?;
-    let text = Row::from_vec(text);
-    match went {
-        Overall::Flawless => Ok(Printout { text, status: 0 }),
-        Overall::Flawed => Ok(Printout { text, status: 1 }),
-        // The replay in this process decides each item.
-        Overall::Unanswered => unreachable!(),
-    }
+    let told = outcome_of(alloc, entries, &checked.graph, &checked.core)?;
+    Ok(told)
 }
 
 /// Replays the items of a file, and tells how each entry came out.
@@ -69,18 +62,19 @@ fn check<F: Shelf, R: Driver>(
 
 /// Replays the items of a file in this process, each given to the driver once what it depends on succeeded, and prints how
 /// each entry came out.
-pub fn check_cmd<I: Source, O: Sink, F: Shelf, R: Driver>(
+pub fn check_cmd<I: Source, O: Sink, F: Shelf, C: Slot + Send, R: Driver>(
     alloc: Global,
-    host: &mut Host<I, O, F, R>,
+    host: &mut Host<I, O, F, C, R>,
     file: Name,
 ) -> u8
     requires here { F.tells → F.places host.old.files file ≢ out }
 
-    ensures checks { let seen = ⟦<Host<I, O, F, R> as Seen>⟧ in Checks R.creates seen.tells (seen.outside host.old) (seen.outside host.new) file result }
+    ensures checks { let seen = ⟦<Host<I, O, F, C, R> as Seen>⟧ in Checks R.creates seen.tells (seen.outside host.old) (seen.outside host.new) file result }
     ensures works { WorksOn F.tells (F.places host.old.files) (F.places host.new.files) file }
-    ensures causes { let seen = ⟦<Host<I, O, F, R> as Seen>⟧.outside in
+    ensures causes { let seen = ⟦<Host<I, O, F, C, R> as Seen>⟧.outside in
         HasCauses (F.tells → FileFaultRose (seen host.old).files (seen host.new).files file) (Rose (O.faults host.old.output) (O.faults host.new.output)) ⊥ result }
     ensures input { host.new.input ≡ host.old.input }
+    ensures crew { host.new.crew ≡ host.old.crew }
     ensures driver { (result ≡ 3) ⊎ (result ≡ 6) → host.new.driver ≡ host.old.driver }
 {
     let made = check(alloc, &mut host.files, &mut host.driver, file.as_str());

@@ -11,6 +11,7 @@ use driver_check::Driver;
 use foz_base::{Printout, Stop, finish, read_input};
 use foz_text::push_hash;
 use foz_words::Row;
+use slot_log::Slot;
 use std::alloc::Global;
 
 /// The text of the capture that an input is, with 0 where no line of it is refused, else 1.
@@ -29,14 +30,15 @@ fn hash<I: Source>(alloc: Global, input: &mut I) -> Result<Printout, Stop>
 
 /// Prints a line for each line of the capture that the input is: the kind and the hash of its state, or why it is refused.
 /// Lines that are empty or comments have none.
-pub fn hash_cmd<I: Source, O: Sink, F: Shelf, R: Driver>(
+pub fn hash_cmd<I: Source, O: Sink, F: Shelf, C: Slot + Send, R: Driver>(
     alloc: Global,
-    host: &mut Host<I, O, F, R>,
+    host: &mut Host<I, O, F, C, R>,
 ) -> u8
-    ensures hashes { let seen = ⟦<Host<I, O, F, R> as Seen>⟧ in Hashes seen.tells (seen.outside host.old) (seen.outside host.new) result }
+    ensures hashes { let seen = ⟦<Host<I, O, F, C, R> as Seen>⟧ in Hashes seen.tells (seen.outside host.old) (seen.outside host.new) result }
     ensures causes { HasCauses (Rose (I.faults host.old.input) (I.faults host.new.input)) (Rose (O.faults host.old.output) (O.faults host.new.output)) ⊥ result }
     ensures files { host.new.files ≡ host.old.files }
     ensures driver { host.new.driver ≡ host.old.driver }
+    ensures crew { host.new.crew ≡ host.old.crew }
 {
     let made = hash(alloc, &mut host.input);
     finish(alloc, &mut host.output, &mut host.errors, made)

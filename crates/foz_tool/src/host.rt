@@ -1,17 +1,20 @@
 //! The outside of the program.
-ghost use Rattle.std.specs.Prelude.{ℕ, List};
+ghost use Rattle.std.specs.Prelude.{ℕ, List, map};
 ghost use Rattle.foz_base.specs.Outside.{Outside, Tells, files_of};
 
 use disk_model::{Disk, Shelf, Sink, Source};
 use driver_check::Driver;
+use slot_log::Slot;
 
-/// What the program reads and writes, what it keeps its files in, and what creates objects for it.
+/// What the program reads and writes, what it keeps its files in, where the workers of a
+/// replay run, and what creates objects for it.
 #[derive(Drop)]
-pub struct Host<I, O, F, R> {
+pub struct Host<I, O, F, C, R> {
     pub input: I,
     pub output: O,
     pub errors: O,
     pub files: F,
+    pub crew: Vec<C>,
     pub driver: R,
 }
 
@@ -24,7 +27,7 @@ pub trait Seen {
     ghost outside: { Self → Outside Meaning };
 }
 
-impl<I: Source, O: Sink, F: Shelf, R: Driver> Seen for Host<I, O, F, R> {
+impl<I: Source, O: Sink, F: Shelf, C: Slot + Send, R: Driver> Seen for Host<I, O, F, C, R> {
     ghost Meaning = { R.Meaning };
 
     ghost tells = { record {
@@ -40,6 +43,7 @@ impl<I: Source, O: Sink, F: Shelf, R: Driver> Seen for Host<I, O, F, R> {
       written = O.written host.output;
       output_faults = O.faults host.output;
       files = files_of F.Held.content F.Held.history F.Held.faults (F.places host.files) (F.faults host.files);
+      crew = map (λ slot. record { log = C.log slot; start_faults = C.start_faults slot; running = C.running slot }) host.crew.items;
       driver = R.meaning host.driver;
     } };
 }

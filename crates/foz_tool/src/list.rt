@@ -13,6 +13,7 @@ use driver_check::Driver;
 use foz_base::{Printout, Stop, finish, read_file};
 use foz_text::push_list;
 use foz_words::{Name, Row};
+use slot_log::Slot;
 use std::alloc::Global;
 
 /// The text of a file, with 0 where each of its lines is `ok`, else 1.
@@ -37,19 +38,20 @@ fn list<F: Shelf>(alloc: Global, files: &mut F, name: &str) -> Result<Printout, 
 }
 
 /// Prints a line for each entry of a file, and a line that says where they end.
-pub fn list_cmd<I: Source, O: Sink, F: Shelf, R: Driver>(
+pub fn list_cmd<I: Source, O: Sink, F: Shelf, C: Slot + Send, R: Driver>(
     alloc: Global,
-    host: &mut Host<I, O, F, R>,
+    host: &mut Host<I, O, F, C, R>,
     file: Name,
 ) -> u8
     requires here { F.tells → F.places host.old.files file ≢ out }
 
-    ensures lists { let seen = ⟦<Host<I, O, F, R> as Seen>⟧ in Lists seen.tells (seen.outside host.old) (seen.outside host.new) file result }
+    ensures lists { let seen = ⟦<Host<I, O, F, C, R> as Seen>⟧ in Lists seen.tells (seen.outside host.old) (seen.outside host.new) file result }
     ensures works { WorksOn F.tells (F.places host.old.files) (F.places host.new.files) file }
-    ensures causes { let seen = ⟦<Host<I, O, F, R> as Seen>⟧.outside in
+    ensures causes { let seen = ⟦<Host<I, O, F, C, R> as Seen>⟧.outside in
         HasCauses (F.tells → FileFaultRose (seen host.old).files (seen host.new).files file) (Rose (O.faults host.old.output) (O.faults host.new.output)) ⊥ result }
     ensures input { host.new.input ≡ host.old.input }
     ensures driver { host.new.driver ≡ host.old.driver }
+    ensures crew { host.new.crew ≡ host.old.crew }
 {
     let made = list(alloc, &mut host.files, file.as_str());
     finish(alloc, &mut host.output, &mut host.errors, made)

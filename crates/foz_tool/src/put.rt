@@ -17,6 +17,7 @@ use foz_base::{OneLine, Printout, Recording, Stop, finish, only_reply, read_inpu
 use foz_text::push_put;
 use foz_words::{Key, Name, NoMemory, Row};
 use record_words::{RecordReply, lines_in_order_make_a_record};
+use slot_log::Slot;
 use std::alloc::Global;
 
 /// Records an input under a key in a file. Gives the line that says how that went, with 0 where the payload is there now.
@@ -77,19 +78,20 @@ fn reply_told(alloc: Global, reply: &RecordReply) -> Result<Printout, Stop>
 }
 
 /// Records the input under a key in a file, and prints a line that says whether it is new or known.
-pub fn put_cmd<I: Source, O: Sink, F: Shelf, R: Driver>(
+pub fn put_cmd<I: Source, O: Sink, F: Shelf, C: Slot + Send, R: Driver>(
     alloc: Global,
-    host: &mut Host<I, O, F, R>,
+    host: &mut Host<I, O, F, C, R>,
     file: Name,
     key: Key,
 ) -> u8
     requires here { F.tells → F.places host.old.files file ≢ out }
 
-    ensures puts { let seen = ⟦<Host<I, O, F, R> as Seen>⟧ in Puts seen.tells (seen.outside host.old) (seen.outside host.new) file key result }
+    ensures puts { let seen = ⟦<Host<I, O, F, C, R> as Seen>⟧ in Puts seen.tells (seen.outside host.old) (seen.outside host.new) file key result }
     ensures works { WorksOn F.tells (F.places host.old.files) (F.places host.new.files) file }
-    ensures causes { let seen = ⟦<Host<I, O, F, R> as Seen>⟧.outside in
+    ensures causes { let seen = ⟦<Host<I, O, F, C, R> as Seen>⟧.outside in
         HasCauses (Rose (I.faults host.old.input) (I.faults host.new.input)) (Rose (O.faults host.old.output) (O.faults host.new.output)) (F.tells → FileFaultRose (seen host.old).files (seen host.new).files file) result }
     ensures driver { host.new.driver ≡ host.old.driver }
+    ensures crew { host.new.crew ≡ host.old.crew }
 {
     let made = put(alloc, &mut host.input, &mut host.files, file.as_str(), key);
     finish(alloc, &mut host.output, &mut host.errors, made)

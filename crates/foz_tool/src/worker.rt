@@ -9,6 +9,7 @@ use crate::host::{Host, Seen};
 use disk_model::{Shelf, Sink, Source};
 use driver_check::Driver;
 use foz_base::{Stop, complain, status_of};
+use slot_log::Slot;
 use std::alloc::Global;
 use std::fmt;
 use worker_node::{Served, serve};
@@ -50,13 +51,14 @@ fn status_of_end<O: Sink>(alloc: Global, errors: &mut O, end: Served) -> u8
 }
 
 /// Serves the frames of the input over the driver, and writes its answers.
-pub fn worker_cmd<I: Source, O: Sink, F: Shelf, R: Driver>(
+pub fn worker_cmd<I: Source, O: Sink, F: Shelf, C: Slot + Send, R: Driver>(
     alloc: Global,
-    host: &mut Host<I, O, F, R>,
+    host: &mut Host<I, O, F, C, R>,
 ) -> u8
-    ensures serves { let seen = ⟦<Host<I, O, F, R> as Seen>⟧ in Serves R.creates seen.tells (seen.outside host.old) (seen.outside host.new) result }
+    ensures serves { let seen = ⟦<Host<I, O, F, C, R> as Seen>⟧ in Serves R.creates seen.tells (seen.outside host.old) (seen.outside host.new) result }
     ensures causes { HasCauses (Rose (I.faults host.old.input) (I.faults host.new.input)) (Rose (O.faults host.old.output) (O.faults host.new.output)) ⊥ result }
     ensures files { host.new.files ≡ host.old.files }
+    ensures crew { host.new.crew ≡ host.old.crew }
 {
     let end = serve(alloc, &mut host.input, &mut host.output, &mut host.driver);
     status_of_end(alloc, &mut host.errors, end)

@@ -3,12 +3,12 @@ use super::{Case, DEFLATE, EMPTY, Given, HEADER, NINE_DAMAGED, NOTHING, Wanted, 
 use std::test::Fail;
 
 // Heads and payloads of entries without checksums: a layout of nothing,
-const LAYOUT: &[u8] =
+pub(super) const LAYOUT: &[u8] =
     b"0000000000000000000000030000000000000003\x37\0\0\0\x01\0\0\0\0\0\0\0\x37\0\0\0\
     {\"pipelineLayouts\":{\"0000000000000003\":{}},\"version\":6}";
 
 // a compute shader that does nothing, its words as varints after the zero byte,
-const MODULE: &[u8] =
+pub(super) const MODULE: &[u8] =
     b"0000000000000000000000040000000000000004\xaf\0\0\0\x01\0\0\0\0\0\0\0\xaf\0\0\0\
     {\"shaderModules\":{\"0000000000000004\":{\"codeSize\":140,\"flags\":0,\"varintOffset\":0,\"varintSize\":64}},\"version\":6}\0\
     \x83\x84\x8c\x39\x80\x80\x04\x00\x05\x00\x91\x80\x08\x01\x8e\x80\x0c\x00\x01\x8f\
@@ -17,7 +17,7 @@ const MODULE: &[u8] =
     \x04\xb8\x80\x04";
 
 // a pipeline of both,
-const PIPELINE: &[u8] =
+pub(super) const PIPELINE: &[u8] =
     b"0000000000000000000000070000000000000007\x92\0\0\0\x01\0\0\0\0\0\0\0\x92\0\0\0\
     {\"computePipelines\":{\"0000000000000007\":{\"layout\":\"0000000000000003\",\"stage\":{\"module\":\"0000000000000004\",\"name\":\"main\",\"stage\":32}}},\"version\":6}";
 
@@ -36,7 +36,7 @@ const OTHER_ON_7: &[u8] =
     {\"computePipelines\":{\"0000000000000008\":{\"basePipelineHandle\":\"0000000000000007\",\"layout\":\"0000000000000003\",\"stage\":{\"module\":\"0000000000000004\",\"name\":\"main\",\"stage\":32}}},\"version\":6}";
 
 // and an application that is only kept.
-const KEPT: &[u8] =
+pub(super) const KEPT: &[u8] =
     b"0000000000000000000000000000000000000009\x03\0\0\0\x01\0\0\0\0\0\0\0\x03\0\0\0\
     any";
 

@@ -2,7 +2,9 @@
 use super::{EMPTY, END, Given, HEADER, NOTHING, Wanted, expect_answer, run_over};
 use std::alloc::Global;
 use std::process::Abort;
+use std::sync::Wait;
 use std::test::Fail;
+use std::thread::Threads;
 
 // The head of an entry of tag 2 and hash 7 with a payload of 16,777,216 bytes and without a checksum.
 const LARGE_HEAD: &[u8] =
@@ -10,7 +12,7 @@ const LARGE_HEAD: &[u8] =
 
 /// A run over this file comes to this. Gives the file that it leaves, none where it is absent.
 fn expect_run<'a>(
-    rt: &impl Abort,
+    rt: &(impl Abort + Wait + Threads + Sync),
     alloc: Global,
     file: Option<Vec<u8>>,
     words: &'a str,
@@ -36,7 +38,7 @@ fn expect_run<'a>(
 
 /// The same, and the file stays.
 fn expect_kept<'a>(
-    rt: &impl Abort,
+    rt: &(impl Abort + Wait + Threads + Sync),
     alloc: Global,
     file: &[u8],
     words: &'a str,
@@ -61,7 +63,7 @@ const READERS: &[(&str, &str)] = &[
 ];
 
 fn expect_absent<'a>(
-    rt: &impl Abort,
+    rt: &(impl Abort + Wait + Threads + Sync),
     alloc: Global,
     words: &'a str,
     input: &'a [u8],
@@ -115,7 +117,7 @@ fn full_archive(alloc: Global) -> Result<Vec<u8>, Fail> {
 
 /// A full archive, once it is closed, answers so and stays.
 fn expect_full<'a>(
-    rt: &impl Abort,
+    rt: &(impl Abort + Wait + Threads + Sync),
     alloc: Global,
     words: &'a str,
     input: &'a [u8],
@@ -140,7 +142,8 @@ fn a_full_archive_takes_no_line(rt: HostRuntime) -> Result<(), Fail> {
         "",
     );
     let input = b"sampler {}\nlens {}\n";
-    expect_full(&rt, rt.alloc(), "record a.foz", input, wanted)
+    expect_full(&rt, rt.alloc(), "record a.foz", input, wanted)?;
+    expect_full(&rt, rt.alloc(), "record a.foz --threads 2", input, wanted)
 }
 
 #[test]
@@ -165,7 +168,11 @@ fn large_archive(alloc: Global) -> Result<Vec<u8>, Fail> {
 }
 
 /// Fills that archive to its last byte by one entry.
-fn filled_archive(rt: &impl Abort, alloc: Global, file: &[u8]) -> Result<Vec<u8>, Fail> {
+fn filled_archive(
+    rt: &(impl Abort + Wait + Threads + Sync),
+    alloc: Global,
+    file: &[u8],
+) -> Result<Vec<u8>, Fail> {
     let last = vec![in alloc; 0_u8; 16_776_304]?;
     let copy = Vec::from_slice(alloc, file)?;
     let words = "put a.foz 1 0000000000000001";

@@ -1,7 +1,10 @@
 //! `record` of the capture of a small game: modules, layouts, passes and the pipelines over them, 130 states that differ.
 use super::record::expect_summary;
 use std::alloc::Global;
+use std::process::Abort;
+use std::sync::Wait;
 use std::test::Fail;
+use std::thread::Threads;
 
 // A module up to its generator word,
 const MODULE: &str = "shader_module {\"code\":\"AwIjBwAAAQA";
@@ -134,13 +137,28 @@ const ALL_NEW: &str = "\nnew 130 known 0 refused 0 entries 130\n";
 
 const ALL_KNOWN: &str = "\nnew 0 known 130 refused 0 entries 130\n";
 
+// By how many threads the capture is recorded.
+const COMMANDS: &[&str] = &["record a.foz", "record a.foz --threads 4"];
+
+/// The capture is recorded into a new file, and then into that file again, which stays.
+fn expect_recorded_once(
+    rt: &(impl Abort + Wait + Threads + Sync),
+    alloc: Global,
+    words: &str,
+    capture: &[u8],
+) -> Result<(), Fail> {
+    let file = expect_summary(rt, alloc, None, words, capture, ALL_NEW)?;
+    let copy = Vec::from_slice(alloc, file.as_slice())?;
+    let again = expect_summary(rt, alloc, Some(copy), words, capture, ALL_KNOWN)?;
+    assert!(rt; again.as_slice() == file.as_slice());
+    Ok(())
+}
+
 #[test]
 fn a_capture_is_recorded_once(rt: HostRuntime) -> Result<(), Fail> {
-    let alloc = rt.alloc();
-    let capture = capture_of(alloc)?;
-    let file = expect_summary(&rt, alloc, None, capture.as_bytes(), ALL_NEW)?;
-    let copy = Vec::from_slice(alloc, file.as_slice())?;
-    let again = expect_summary(&rt, alloc, Some(copy), capture.as_bytes(), ALL_KNOWN)?;
-    assert!(rt; again.as_slice() == file.as_slice());
+    let capture = capture_of(rt.alloc())?;
+    for words in COMMANDS {
+        expect_recorded_once(&rt, rt.alloc(), words, capture.as_bytes())?;
+    }
     Ok(())
 }

@@ -5,14 +5,16 @@ use super::{
 };
 use std::alloc::Global;
 use std::process::Abort;
+use std::sync::Wait;
 use std::test::Fail;
+use std::thread::Threads;
 
 // The payload of the least sampler has 303 bytes, so its entry has 359.
 const WITH_ONE: usize = 17 + 359;
 
 /// `record` answers so, and leaves a file of this length. Gives the file.
 fn expect_recorded(
-    rt: &impl Abort,
+    rt: &(impl Abort + Wait + Threads + Sync),
     alloc: Global,
     file: Option<Vec<u8>>,
     given: &Given<'_>,
@@ -120,7 +122,7 @@ const RECORDED: Wanted<'static> = Wanted {
 
 /// `record` into an archive without entries, on whose disk this call fails, comes to this.
 fn expect_with_failing(
-    rt: &impl Abort,
+    rt: &(impl Abort + Wait + Threads + Sync),
     alloc: Global,
     call: u64,
     wanted: &Wanted<'_>,
@@ -250,34 +252,35 @@ fn range(alloc: Global, from: u32, to: u32) -> Result<Vec<u32>, Fail> {
 }
 
 /// `record` of these lines, all of which are read, has this as its last line. Gives the file.
-pub(super) fn expect_summary(
-    rt: &impl Abort,
+pub(super) fn expect_summary<'a>(
+    rt: &(impl Abort + Wait + Threads + Sync),
     alloc: Global,
     file: Option<Vec<u8>>,
-    lines: &[u8],
+    words: &'a str,
+    lines: &'a [u8],
     summary: &str,
 ) -> Result<Vec<u8>, Fail> {
     let given = Given {
-        words: "record a.foz",
+        words,
         input: lines,
         ..NOTHING
     };
     let left = run_over(rt, alloc, file, 1_000_000, &given)?;
-    assert!(rt; left.output.ends_with(summary.as_bytes()), "{summary}");
-    assert_eq!(rt; left.status, 0, "{summary}");
+    assert!(rt; left.output.ends_with(summary.as_bytes()), "{words}");
+    assert_eq!(rt; left.status, 0, "{words}");
     Ok(left.file.unwrap_or(Vec::new(alloc)))
 }
 
 /// The same of the samplers with these numbers.
 fn expect_samplers(
-    rt: &impl Abort,
+    rt: &(impl Abort + Wait + Threads + Sync),
     alloc: Global,
     file: Option<Vec<u8>>,
     numbers: &[u32],
     summary: &str,
 ) -> Result<Vec<u8>, Fail> {
     let lines = samplers(alloc, numbers)?;
-    expect_summary(rt, alloc, file, &lines, summary)
+    expect_summary(rt, alloc, file, "record a.foz", &lines, summary)
 }
 
 // What is written goes by the number of records, and not by that of new entries: a batch ends among those that are known.
@@ -390,7 +393,7 @@ fn batch_lines(alloc: Global, case: &Batches) -> Result<Vec<u8>, Fail> {
 
 /// `record` of these lines into an archive without entries, whose disk fails at these calls.
 fn recorded_over<'a>(
-    rt: &impl Abort,
+    rt: &(impl Abort + Wait + Threads + Sync),
     alloc: Global,
     lines: &'a [u8],
     failing: &'a [u64],
@@ -405,7 +408,11 @@ fn recorded_over<'a>(
     run_over(rt, alloc, file, 100_000, &given)
 }
 
-fn expect_batches(rt: &impl Abort, alloc: Global, case: &Batches) -> Result<(), Fail> {
+fn expect_batches(
+    rt: &(impl Abort + Wait + Threads + Sync),
+    alloc: Global,
+    case: &Batches,
+) -> Result<(), Fail> {
     let lines = batch_lines(alloc, case)?;
     let left = recorded_over(rt, alloc, &lines, case.failing)?;
     assert_eq!(rt; left.status, case.status);

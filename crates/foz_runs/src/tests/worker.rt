@@ -2,7 +2,9 @@
 use super::{Case, Given, NOTHING, ROOM, Wanted, expect_cases, joined, run_over};
 use std::alloc::Global;
 use std::process::Abort;
+use std::sync::Wait;
 use std::test::Fail;
+use std::thread::Threads;
 
 // The frames: an end,
 const QUIT: &[u8] = b"\x01\0\0\0\x05";
@@ -98,7 +100,7 @@ const SESSIONS: &[Session] = &[
 ];
 
 fn expect_session(
-    rt: &impl Abort,
+    rt: &(impl Abort + Wait + Threads + Sync),
     alloc: Global,
     frames: &[&[u8]],
     status: u8,

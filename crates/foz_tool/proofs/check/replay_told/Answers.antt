@@ -1,10 +1,11 @@
-use Rattle.std.proofs.Common.{List, Option, ap, sym, ◌∙◌}
-use Rattle.replay_core.specs.declared.event.Verdict.{Verdict}
-use Rattle.replay_text.specs.Overall.{overall}
+use Rattle.foz_tool.proofs.Answered.{answered_status}
 use Rattle.foz_tool.proofs.check.replay_told.Goals as goal
 
-pub unreachable-requires : goal.unreachable-requires
-unreachable-requires g c =
-    let classes = c.in_ok-checked.checked.graph.classes in
-    c.decided_is_answered.ensures _ _ _ c.in_ok-checked.ensures.replay.decided
-    (ap (λ (verdicts : List (Option Verdict)). overall classes verdicts) (sym c.verdicts-verdicts.ensures) ∙ sym c.in_ok-went.ensures.overall ∙ c.in-Unanswered.is)
+pub returns : goal.returns
+returns g c = record {
+  graph = c.in_ok-checked.checked.graph;
+  core = c.in_ok-checked.checked.core;
+  replayed = c.in_ok-checked.ensures;
+  told = c.in_ok-told.ensures.text;
+  status_is = answered_status _ _ (c.decided_is_answered.ensures _ _ _ c.in_ok-checked.ensures.replay.decided) c.in_ok-told.ensures.status;
+}

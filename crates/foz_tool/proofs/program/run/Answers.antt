@@ -35,3 +35,13 @@ returns-in-Ok-Worker-clause-complete g c =
 
 pub returns-in-Err-Memory-clause-runs : goal.returns-in-Err-Memory-clause-runs
 returns-in-Err-Memory-clause-runs g c = out_of_memory _ g.R.Driver.creates c.sessions_have_one_end.ensures.unserved _ _ (λ none. not_usage _ c.in-Err-Memory.field-0-is (c.in-Err-Memory.ensures.usage.1 none))
+
+pub returns-in-Ok-Replay-clause-complete : goal.returns-in-Ok-Replay-clause-complete
+returns-in-Ok-Replay-clause-complete g c =
+    let is = c.in-Ok-Replay.ensures.read ∙ ap Some c.in-Ok-Replay.field-0-is in
+    rw is (λ input output content sound. due c.lines_in_order_make_a_record.ensures.only g.R.Driver.creates _ _ _ _ _ c.replay_cmd.ensures.replays input output content sound)
+
+pub returns-in-Ok-Replay-clause-unanswered : goal.returns-in-Ok-Replay-clause-unanswered
+returns-in-Ok-Replay-clause-unanswered g c =
+    let is = c.in-Ok-Replay.ensures.read ∙ ap Some c.in-Ok-Replay.field-0-is in
+    rw is (λ nine. c.replay_cmd.ensures.causes.unanswered nine)
