@@ -4,15 +4,19 @@
     scripts/run_docs.py PROGRAM [FILES]
 
 In a block of code a line that begins with `$ ` is a command of bash, `> ` goes on with it, and the lines up to the next command are what it
-prints on both outputs. A file's commands run one after the other in a folder of their own, which has the checkout's scripts, examples and
-crates, so the checkout stays as it is.
+prints on both outputs. A file's commands run one after the other in one shell, as they would be pasted, in a folder of their own that has the
+checkout's scripts, examples and crates, so the checkout stays as it is.
 """
 import glob
 import os
 import re
+import signal
 import subprocess
 
 from harness import TOP, Difference, tried
+
+# No document takes as many seconds as this; one that does hangs.
+LONGEST = 300
 
 SHARED = ("scripts", "examples", "crates", "docs", "crates.txt", "HANDLES")
 
@@ -54,15 +58,34 @@ def commands_of(text):
                 shown.append(line)
 
 
-def run(command, folder):
-    streams = {"stdin": subprocess.DEVNULL, "stdout": subprocess.PIPE, "stderr": subprocess.STDOUT}
-    done = subprocess.run(["bash", "-c", command], cwd=folder, timeout=300, **streams)
-    return done.stdout.decode(errors="replace").strip("\n")
+# What the shell prints after each command, so that what one prints is told from what the next does.
+END = "\x1e"
+
+
+def run(commands, folder):
+    """What each of these commands prints, up to the first that ends the shell."""
+    text = "\n".join(f"{command}\nprintf '\\036'" for command in commands)
+    # Whoever hangs is stopped with all that it has started: the shell leads a group of its own.
+    shell = subprocess.Popen(
+        ["bash", "-c", text],
+        cwd=folder,
+        stdin=subprocess.DEVNULL,
+        stdout=subprocess.PIPE,
+        stderr=subprocess.STDOUT,
+        env={**os.environ, "TMPDIR": folder},
+        start_new_session=True,
+    )
+    try:
+        printed, _ = shell.communicate(timeout=LONGEST)
+    except subprocess.TimeoutExpired:
+        os.killpg(shell.pid, signal.SIGKILL)
+        printed, _ = shell.communicate()
+    return printed.decode(errors="replace").split(END)
 
 
 def plain(text):
-    """What is compared of a text: not the blanks at the ends of lines."""
-    return re.sub(r"[ \t]+$", "", text, flags=re.M)
+    """What is compared of a text: not the blanks at the ends of lines, nor empty lines around it."""
+    return re.sub(r"[ \t]+$", "", text, flags=re.M).strip("\n")
 
 
 def work(trial, words):
@@ -73,11 +96,14 @@ def work(trial, words):
         for shared in SHARED:
             os.symlink(os.path.join(TOP, shared), os.path.join(folder, shared))
         with open(name, encoding="utf-8") as file:
-            for command, shown in commands_of(file.read()):
-                found = run(command, folder)
-                if plain(found) != plain(shown):
-                    raise Difference(f"{os.path.relpath(name, TOP)} shows of\n{command}\nwhat isn't so:\n{shown}\nIt prints\n{found}")
-                count += 1
+            commands = list(commands_of(file.read()))
+        printed = run([command for command, _ in commands], folder)
+        for (command, shown), found in zip(commands, printed):
+            if plain(found) != plain(shown):
+                raise Difference(f"{os.path.relpath(name, TOP)} shows of\n{command}\nwhat isn't so:\n{shown}\nIt prints\n{found}")
+        if len(printed) <= len(commands):
+            raise Difference(f"{os.path.relpath(name, TOP)}: this doesn't end by itself within {LONGEST} seconds:\n{commands[len(printed) - 1][0]}")
+        count += len(commands)
     return f"{count} commands of the documents print what is shown"
 
 

@@ -1,8 +1,8 @@
-"""A replay of an archive by docs/format.md: the class of each entry, what each item depends on, and the text of `check`."""
+"""A replay of an archive by docs/format.md: the class of each entry, what each item depends on, and the texts of `check` and `replay`."""
 from . import archive, payloads
 from .driver import Driver
 from .jsons import Refused
-from .runs import failed, told
+from .runs import Run, failed, told
 from .states import KIND_OF_TAG, refs_of
 
 
@@ -51,18 +51,20 @@ def founded(items):
         rest = [item for item in rest if item.key not in done]
 
 
-def verdicts_of(items):
-    """What each item comes to, by its number: `done`, `refused CODE` or `missing KEY`."""
+def verdicts_of(items, deadly=()):
+    """What each item comes to, by its number: `done`, `refused CODE`, `missing KEY`, or `blamed` where a worker dies over its key."""
     driver, found, succeeded = Driver(), {}, set()
     for item in founded(items):
         absent = next((ref for ref in item.refs if ref not in succeeded), None)
-        if absent is None:
+        if absent is not None:
+            found[item.number] = f"missing {absent}"
+        elif item.key in deadly:
+            found[item.number] = "blamed"
+        else:
             code = driver.create(item.key, item.kind, item.state)
             found[item.number] = "done" if code == 0 else f"refused {code}"
             if code == 0:
                 succeeded.add(item.key)
-        else:
-            found[item.number] = f"missing {absent}"
     for item in items:
         if item.number not in found:
             absent = next(ref for ref in item.refs if ref not in succeeded)
@@ -70,18 +72,40 @@ def verdicts_of(items):
     return found
 
 
-def check_run(data):
-    """What `check` of a file has to answer."""
+VERDICTS = ("done", "refused", "blamed", "missing", "unanswered")
+
+
+def text_of(entries, words, verdicts, restarts, retired):
+    """The text of a replay: the words of entries that are no items, and the verdicts of those that are, by their numbers."""
+    words = [verdicts[number] if word is None else word for number, word in enumerate(words)]
+    lines = [f"{number} {entry.key} {word}\n" for number, (entry, word) in enumerate(zip(entries, words))]
+    counts = [word.split()[0] for word in verdicts.values()]
+    lines.append(f"items {len(verdicts)} {' '.join(f'{word} {counts.count(word)}' for word in VERDICTS)}\n")
+    lines.append(f"deaths {counts.count('blamed')} restarts {restarts} retired {retired}\n")
+    if "unanswered" in counts:
+        return Run(9, "".join(lines).encode(), b"foz: no workers\n")
+    return told(0 if all(word in ("done", "kept") for word in words) else 1, "".join(lines))
+
+
+def replay_run(data, deadly=()):
+    """What `replay` of a file has to answer where each worker that is wanted can be started, and dies over these keys."""
     try:
         entries, _ = archive.read(data)
     except archive.Refused as cause:
         return failed(6, cause)
     words, items = classes_of(entries)
-    verdicts = verdicts_of(items)
-    words = [verdicts[number] if word is None else word for number, word in enumerate(words)]
-    lines = [f"{number} {entry.key} {word}\n" for number, (entry, word) in enumerate(zip(entries, words))]
-    count = [word.split()[0] for word in verdicts.values()]
-    done, refused, missing = (count.count(word) for word in ("done", "refused", "missing"))
-    lines.append(f"items {len(items)} done {done} refused {refused} blamed 0 missing {missing} unanswered 0\n")
-    lines.append("deaths 0 restarts 0 retired 0\n")
-    return told(0 if all(word in ("done", "kept") for word in words) else 1, "".join(lines))
+    verdicts = verdicts_of(items, deadly)
+    return text_of(entries, words, verdicts, list(verdicts.values()).count("blamed"), 0)
+
+
+def check_run(data):
+    """What `check` of a file has to answer: it replays without a worker that could die."""
+    return replay_run(data)
+
+
+def starved_run(data, workers, verdicts=()):
+    """What `replay` of an archive has to answer where, after these verdicts, none of its workers can be started any more."""
+    entries, _ = archive.read(data)
+    words, items = classes_of(entries)
+    found = {item.number: dict(verdicts).get(item.key, "unanswered") for item in items}
+    return text_of(entries, words, found, 0, workers)
